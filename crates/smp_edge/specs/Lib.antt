@@ -1,0 +1,4 @@
+pub mod Faults
+pub mod Sink
+pub mod Files
+pub mod Stored
