@@ -1,11 +1,12 @@
 -- What is put out and what is held while the lines of a transcript are gathered.
-use Rattle.std.proofs.Common.{◌≡◌, ℕ, ◌+◌, ◌<◌, ◌≤◌, List, [], ◌∷◌, ◌++◌, take, drop, length, get_or, flat_map, Option, Some, None, refl, sym, ap, ◌∙◌, append_assoc, append-nil}
+use Rattle.std.proofs.Common.{◌≡◌, ℕ, ◌+◌, ◌<◌, ◌≤◌, List, [], ◌∷◌, ◌++◌, take, drop, length, get_or, Option, Some, None, refl, sym, ap, ◌∙◌, append_assoc, append-nil}
 use Rattle.std.specs.Io.KnownBytes.{append_known}
 use Rattle.std.proofs.lemmas.List.{take-append-drop, take_more, take_all}
-use Rattle.std.proofs.lemmas.List.Concat.{flat_map-append, flat_map-cons}
 use Rattle.smp_edge.specs.Sink.{AppendsFront}
 use Rattle.smp_app.specs.Gathering.{PutOn}
-use Rattle.smp_app.specs.Transcript.{line_of, last_line, transcript}
+use Rattle.smp_model.specs.Device.{Counters, no_counters}
+use Rattle.smp_app.specs.Device.{handled}
+use Rattle.smp_app.specs.Transcript.{line_of, event_lines, counters_after, last_line, transcript}
 
 -- nothing more
 known_none : (old : Option (List ℕ)) → old ≡ append_known old []
@@ -38,38 +39,61 @@ none_put old new bytes same = record { front = []; rest = bytes; split = refl; a
 pub whole_put : (old new : Option (List ℕ)) (bytes : List ℕ) → new ≡ append_known old bytes → AppendsFront old new bytes
 whole_put old new bytes put = record { front = bytes; rest = []; split = sym (append-nil bytes); appended = put }
 
--- the lines up to an event
+-- the lines of packets that come one after the others
+lines-append : (c : Counters) (xs ys : List (List ℕ)) → event_lines c (xs ++ ys) ≡ event_lines c xs ++ event_lines (counters_after c xs) ys
+lines-append c [] ys = refl
+lines-append c (x ∷ xs) ys =
+    ap (λ (l : List ℕ). line_of c x ++ l) (lines-append (handled c x).counters xs ys)
+    ∙ sym (append_assoc (line_of c x) (event_lines (handled c x).counters xs) (event_lines (counters_after (handled c x).counters xs) ys))
+
+counters-append : (c : Counters) (xs ys : List (List ℕ)) → counters_after c (xs ++ ys) ≡ counters_after (counters_after c xs) ys
+counters-append c [] ys = refl
+counters-append c (x ∷ xs) ys = counters-append (handled c x).counters xs ys
+
+-- the lines up to an event, and the counters then
 abbrev pub lines_to : ℕ → List (List ℕ) → List ℕ
-lines_to i events = flat_map line_of (take i events)
+lines_to i events = event_lines no_counters (take i events)
+
+abbrev pub counters_at : ℕ → List (List ℕ) → Counters
+counters_at i events = counters_after no_counters (take i events)
 
 -- the lines from an event on
 abbrev pub lines_from : ℕ → List (List ℕ) → List ℕ
-lines_from i events = flat_map line_of (drop i events) ++ last_line
+lines_from i events = event_lines (counters_at i events) (drop i events) ++ last_line
+
+taken : (events : List (List ℕ)) (i : ℕ) (event : List ℕ) → i < length events → event ≡ get_or events i event
+    → take (i + 1) events ≡ take i events ++ event ∷ []
+taken events i event h is = take_more events i event h ∙ ap (λ (x : List ℕ). take i events ++ x ∷ []) (sym is)
+
+pub counters_more : (events : List (List ℕ)) (i : ℕ) (event : List ℕ) → i < length events → event ≡ get_or events i event
+    → counters_at (i + 1) events ≡ (handled (counters_at i events) event).counters
+counters_more events i event h is =
+    ap (counters_after no_counters) (taken events i event h is) ∙ counters-append no_counters (take i events) (event ∷ [])
 
 pub lines_more : (events : List (List ℕ)) (i : ℕ) (event : List ℕ) → i < length events → event ≡ get_or events i event
-    → lines_to (i + 1) events ≡ lines_to i events ++ line_of event
+    → lines_to (i + 1) events ≡ lines_to i events ++ line_of (counters_at i events) event
 lines_more events i event h is =
-    let one : flat_map line_of (event ∷ []) ≡ line_of event = flat_map-cons line_of event [] ∙ append-nil (line_of event) in
-    ap (flat_map line_of) (take_more events i event h ∙ ap (λ (x : List ℕ). take i events ++ x ∷ []) (sym is))
-    ∙ flat_map-append line_of (take i events) (event ∷ [])
-    ∙ ap (λ (xs : List ℕ). lines_to i events ++ xs) one
+    ap (event_lines no_counters) (taken events i event h is) ∙ lines-append no_counters (take i events) (event ∷ [])
+    ∙ ap (λ (l : List ℕ). lines_to i events ++ l) (append-nil (line_of (counters_at i events) event))
 
 pub lines_parted : (events : List (List ℕ)) (i : ℕ) → transcript events ≡ lines_to i events ++ lines_from i events
 lines_parted events i =
-    ap (λ (xs : List ℕ). xs ++ last_line)
-    (ap (flat_map line_of) (sym (take-append-drop i events)) ∙ flat_map-append line_of (take i events) (drop i events))
-    ∙ append_assoc (lines_to i events) (flat_map line_of (drop i events)) last_line
+    ap (λ (l : List ℕ). l ++ last_line)
+    (ap (event_lines no_counters) (sym (take-append-drop i events)) ∙ lines-append no_counters (take i events) (drop i events))
+    ∙ append_assoc (lines_to i events) (event_lines (counters_at i events) (drop i events)) last_line
 
 -- a line more is held
 pub line_held : (old new : Option (List ℕ)) (events : List (List ℕ)) (i : ℕ) (event held more : List ℕ)
-    → i < length events → event ≡ get_or events i event → PutOn old new (lines_to i events) held → more ≡ held ++ line_of event
-    → PutOn old new (lines_to (i + 1) events) more
-line_held old new events i event held more h is put e = record {
-  front = put.front;
-  split = lines_more events i event h is ∙ ap (λ (xs : List ℕ). xs ++ line_of event) put.split
-      ∙ append_assoc put.front held (line_of event) ∙ ap (λ (xs : List ℕ). put.front ++ xs) (sym e);
-  appended = put.appended;
-}
+    → i < length events → event ≡ get_or events i event → PutOn old new (lines_to i events) held
+    → more ≡ held ++ line_of (counters_at i events) event → PutOn old new (lines_to (i + 1) events) more
+line_held old new events i event held more h is put e =
+    let line = line_of (counters_at i events) event in
+    record {
+      front = put.front;
+      split = lines_more events i event h is ∙ ap (λ (xs : List ℕ). xs ++ line) put.split
+          ∙ append_assoc put.front held line ∙ ap (λ (xs : List ℕ). put.front ++ xs) (sym e);
+      appended = put.appended;
+    }
 
 -- a front of what was held is put out
 pub put_then : (old mid new : Option (List ℕ)) (bytes held rest : List ℕ) → PutOn old mid bytes held → PutOn mid new held rest
@@ -108,7 +132,7 @@ last_held : (old new : Option (List ℕ)) (events : List (List ℕ)) (i : ℕ) (
     → PutOn old new (lines_to i events) held → all ≡ held ++ last_line → PutOn old new (transcript events) all
 last_held old new events i held all h put e =
     let whole : take i events ≡ events = take_all i events h in
-    let lines : flat_map line_of events ≡ put.front ++ held = ap (flat_map line_of) (sym whole) ∙ put.split in
+    let lines : event_lines no_counters events ≡ put.front ++ held = ap (event_lines no_counters) (sym whole) ∙ put.split in
     record {
       front = put.front;
       split = ap (λ (xs : List ℕ). xs ++ last_line) lines ∙ append_assoc put.front held last_line

@@ -1,6 +1,6 @@
 pub mod Status
 pub mod Words
-pub mod Replies
+pub mod Device
 pub mod Schedule
 pub mod Transcript
 pub mod Gathering

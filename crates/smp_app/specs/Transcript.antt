@@ -1,22 +1,32 @@
 -- What a replay prints.
-use Rattle.std.specs.Prelude.{ℕ, List, ◌++◌, codes}
-use Rattle.std.specs.List.{flat_map}
+use Rattle.std.specs.Prelude.{ℕ, List, [], ◌∷◌, ◌++◌, Option, codes}
 use Rattle.std.specs.Option.{option_map_or}
 use Rattle.hex.specs.Hex.{encode_lower}
-use Rattle.smp_app.specs.Replies.{answer_to}
+use Rattle.smp_model.specs.Device.{Counters, no_counters}
+use Rattle.smp_app.specs.Device.{handled}
 
--- The reply in hex, or `dropped`.
-abbrev pub word_of : List ℕ → List ℕ
-word_of event = option_map_or encode_lower (answer_to event) (codes "dropped")
+-- A line of these characters.
+abbrev pub line_with : List ℕ → List ℕ
+line_with word = codes "raw " ++ word ++ codes "\n"
 
--- The line of a packet.
-abbrev pub line_of : List ℕ → List ℕ
-line_of event = codes "raw " ++ word_of event ++ codes "\n"
+-- The line of a packet, by the counters before it: the reply in hex, or `dropped`.
+abbrev pub line_of : Counters → List ℕ → List ℕ
+line_of counters event = line_with (option_map_or encode_lower (handled counters event).reply (codes "dropped"))
+
+-- A line for each packet, one after another.
+abbrev pub event_lines : Counters → List (List ℕ) → List ℕ
+event_lines counters [] = []
+event_lines counters (event ∷ events) = line_of counters event ++ event_lines (handled counters event).counters events
+
+-- The counters after these packets.
+abbrev pub counters_after : Counters → List (List ℕ) → Counters
+counters_after counters [] = counters
+counters_after counters (event ∷ events) = counters_after (handled counters event).counters events
 
 -- Packets that clients sent, replies to them, and jobs done. There are no clients yet.
 abbrev pub last_line : List ℕ
 last_line = codes "end sent 0 answered 0 done 0\n"
 
--- A line for each event, and the last line.
+-- A line for each event from a device that has just started, and the last line.
 abbrev pub transcript : List (List ℕ) → List ℕ
-transcript events = flat_map line_of events ++ last_line
+transcript events = event_lines no_counters events ++ last_line

@@ -7,8 +7,8 @@
 #![tactic(auto)]
 
 mod command;
+mod device;
 mod replay;
-mod reply;
 mod schedule;
 mod status;
 mod words;

@@ -1,17 +1,21 @@
 // The transcript of a schedule.
-ghost use Rattle.std.specs.Prelude.{◌≡◌, ◌*◌, ◌++◌, ◌≤◌, length, OnOk, OnErr};
+ghost use Rattle.std.specs.Prelude.{◌≡◌, ◌+◌, ◌*◌, ◌++◌, ◌≤◌, length, take, OnOk};
 ghost use Rattle.hex.specs.Hex.{encode_lower};
 ghost use Rattle.std.specs.Io.KnownBytes.{append_known};
 ghost use Rattle.smp_edge.specs.Faults.{HasCause};
 ghost use Rattle.smp_edge.specs.Sink.{AppendsFront};
 ghost use Rattle.smp_app.specs.Gathering.{PutOn};
-ghost use Rattle.smp_app.specs.Transcript.{line_of, transcript, word_of};
+ghost use Rattle.smp_model.specs.Device.{no_counters};
+ghost use Rattle.smp_groups.specs.Counters.{counters_of};
+ghost use Rattle.smp_app.specs.Device.{handled};
+ghost use Rattle.smp_app.specs.Transcript.{line_of, line_with, transcript};
 ghost use Rattle.smp_app.specs.Outcome.{WriteCause, IsEndOfWriting};
 
 use crate::Status;
-use crate::reply::answer;
+use crate::device::handle;
 use arrayvec::ArrayVec;
 use smp_edge::{Block, Failed, Octets, Sink};
+use smp_groups::Counts;
 use std::alloc::Global;
 
 /// The transcript is put out in pieces of at least so many bytes.
@@ -22,50 +26,50 @@ const ROOM: usize = PIECE + 8192;
 
 const LAST_LINE: &[u8; 29] = b"end sent 0 answered 0 done 0\n";
 
-/// A reply and its hex digits. They are made once for a whole replay.
+/// The counters of the device, and the buffers of a reply and its line, which are made once for a whole replay.
 #[derive(Drop)]
-struct Buffers {
+struct Replay {
+    counts: Counts,
     reply: ArrayVec<u8, 2048>,
-    digits: [u8; 4096],
+    line: [u8; 4101],
 }
 
-impl Buffers {
-    fn new() -> Buffers {
-        Buffers {
+impl Replay {
+    fn new() -> Replay
+        ensures { counters_of result.counts ≡ no_counters }
+    {
+        Replay {
+            counts: Counts::default(),
             reply: ArrayVec::new(),
-            digits: [0; 4096],
+            line: [0; 4101],
         }
     }
 }
 
-/// Appends bytes in hex. `digits` has room for them.
-fn put_hex(block: &mut Block, digits: &mut [u8], bytes: &[u8]) -> Result<(), Failed>
-    requires { 2 * length bytes.now ≤ length digits.old }
-    ensures { OnOk result (block.new.held ≡ block.old.held ++ encode_lower bytes.now) }
+/// Lays a line with these bytes in hex at the front of `line`, which has room for it, and answers its length.
+fn lay_line(line: &mut [u8], bytes: &[u8]) -> usize
+    requires { 2 * length bytes.now + 5 ≤ length line.old }
+    ensures size { result ≡ 2 * length bytes.now + 5 }
+    ensures laid { take result line.new ≡ line_with (encode_lower bytes.now) }
 {
-    let digits = &mut digits[..2 * bytes.len()];
+    let (front, rest) = line.split_at_mut(4);
+    front.copy_from_slice(b"raw ");
+    let (digits, end) = rest.split_at_mut(2 * bytes.len());
     let _ = hex::encode_to_slice(bytes, digits);
-    block.put(digits)
+    end[0] = b'\n';
+    2 * bytes.len() + 5
 }
 
-/// Appends what a line says of a packet: the reply in hex, or `dropped`.
-fn put_answer(block: &mut Block, buffers: &mut Buffers, event: &[u8]) -> Result<(), Failed>
-    ensures { OnOk result (block.new.held ≡ block.old.held ++ word_of event.now) }
+/// Has the device handle a packet, and appends its line: the reply in hex, or `dropped`.
+fn put_line(block: &mut Block, replay: &mut Replay, event: &[u8]) -> Result<(), Failed>
+    ensures counts { OnOk result (counters_of replay.new.counts ≡ (handled (counters_of replay.old.counts) event.now).counters) }
+    ensures ok { OnOk result (block.new.held ≡ block.old.held ++ line_of (counters_of replay.old.counts) event.now) }
 {
-    if answer(&mut buffers.reply, event) {
-        put_hex(block, &mut buffers.digits, buffers.reply.as_slice())
-    } else {
-        block.put(b"dropped")
+    if !handle(&mut replay.counts, &mut replay.reply, event) {
+        return block.put(b"raw dropped\n");
     }
-}
-
-/// Appends the line of a packet.
-fn put_line(block: &mut Block, buffers: &mut Buffers, event: &[u8]) -> Result<(), Failed>
-    ensures { OnOk result (block.new.held ≡ block.old.held ++ line_of event.now) }
-{
-    block.put(b"raw ")?;
-    put_answer(block, buffers, event)?;
-    block.put(b"\n")
+    let size = lay_line(&mut replay.line, replay.reply.as_slice());
+    block.put(&replay.line[..size])
 }
 
 /// Puts out what is gathered where that is a piece.
@@ -91,9 +95,9 @@ pub fn write_transcript<O: Sink>(alloc: Global, events: &[Octets], out: &mut O) 
     let Ok(mut block) = Block::with_capacity(alloc, ROOM) else {
         return Status::NoMemory;
     };
-    let mut buffers = Buffers::new();
+    let mut replay = Replay::new();
     for event in events {
-        let Ok(()) = put_line(&mut block, &mut buffers, event.as_slice()) else {
+        let Ok(()) = put_line(&mut block, &mut replay, event.as_slice()) else {
             return Status::NoMemory;
         };
         let Ok(()) = put_piece(&mut block, out) else {

@@ -1,4 +1,5 @@
 // Runs whose expected texts were worked out by hand from the tables of packets and replies.
+
 use crate::{Status, run};
 use smp_edge::{Calls, MemFiles, MemSink, Octets, SteadyFiles, SteadySink};
 use std::alloc::{AllocError, Global};
@@ -57,23 +58,43 @@ fn replays_packets(rt: HostRuntime) -> Result<(), Fail> {
             "raw e07f000400000900a1616460\n",
             "raw 0100000400000900a1617260\n",
         ),
-        // Another group, another command, and other data.
+        // Data of an indefinite map, and of a text with a wider head.
+        (
+            "raw 0a00000700000200bf6164626869ff\nraw 0200000700000100a1616478026869\n",
+            "raw 0b00000600000200a16172626869\nraw 0300000600000100a16172626869\n",
+        ),
+        // Another group, another command, and data that is refused.
         (
             "raw 0000000100630300a0\nraw 02000006000001\n",
             "raw 0100000500630300a162726308\nraw dropped\n",
         ),
         (
-            "raw 0200000600000101a16164626869\nraw 0200000600000100a16164626800\n",
-            "raw 0300000500000101a162726308\nraw 0300000600000100a16172626800\n",
+            "raw 0200000600000101a16164626869\nraw 0200000600000100a161646268ff\n",
+            "raw 0300000500000101a162726308\nraw 0300000500000100a162726303\n",
         ),
         (
-            "raw 0200000700000100a1616478026869\nraw 0200000600000100a161646268ff\n",
-            "raw 0300000500000100a162726308\nraw 0300000500000100a162726308\n",
+            "raw 0a00000b00010501a2636f666600636f666600\n",
+            "raw 0b00000500010501a162726303\n",
         ),
-        // Version bits 2 and 3 are answered in version 2.
+        // Seven lists in the value of another key are level 8, and eight are level 9.
         (
-            "raw 1200000600000100a16164626869\nraw 1a00000600000100a16164626869\n",
-            "raw 0b00000500000100a162726308\nraw 0b00000500000100a162726308\n",
+            "raw 0a00000f00000600a26164616161788181818181818100\nraw 0a00001000000600a2616461616178818181818181818100\n",
+            "raw 0b00000500000600a161726161\nraw 0b00000500000600a162726303\n",
+        ),
+        // Version bits 2 and 3 are refused before anything else, in version 2.
+        (
+            "raw 1200000600000100a16164626869\nraw 1a00000100000400a0\nraw 1a00000100630400ff\n",
+            "raw 0b00000500000100a16272630d\nraw 0b00000500000400a16272630d\nraw 0b00000500630400a16272630d\n",
+        ),
+        // Parameters, and the list of statistics.
+        (
+            "raw 0000000100000606a0\nraw 0000000100020701a0\n",
+            "raw 0100001800000606a2686275665f73697a65190800696275665f636f756e7401\nraw 0100001000020701a169737461745f6c6973748163736d70\n",
+        ),
+        // A dropped packet, an echo and an error; then the statistics `smp`, which count them and not themselves.
+        (
+            "raw 00\nraw 0200000600000100a16164626869\nraw 0000000100630300a0\nraw 0800000a00020800a1646e616d6563736d70\n",
+            "raw dropped\nraw 0300000600000100a16172626869\nraw 0100000500630300a162726308\nraw 0900002c00020800a2646e616d6563736d70666669656c6473a36768616e646c6564026764726f7070656401666572726f727301\n",
         ),
         // A length that is not its own, a reply, and no operation at all.
         (

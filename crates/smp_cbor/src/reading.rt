@@ -1,56 +1,69 @@
-// Echo data from its bytes.
-ghost use Rattle.std.specs.Prelude.{◌≡◌, ◌+◌, ◌≤◌, ◌<◌, ◌++◌, ◌^◌, List, ℕ, length, IfSome, IfNone, IsUtf8, IsTrue, ◌↔◌, drop};
-ghost use Rattle.std.specs.Option.{option_map};
-ghost use Rattle.smp_cbor.specs.Cbor.{echo_data, echo_of, head_width};
+//! Reading a packet's data as one map.
 
-use crate::writing::{put, put_head};
-use arrayvec::ArrayVec;
-use std::str;
+ghost use Rattle.std.specs.Prelude.{◌≡◌, ℕ, IfOk, IfErr, OnErr, IsErr, IsOkAnd, IsErrAnd};
+ghost use Rattle.smp_cbor.specs.Heads.{Gives};
+ghost use Rattle.smp_cbor.specs.Values.{map_of, Pairs, pairs};
+ghost use Rattle.smp_cbor.specs.Spelling.{SpellsMap};
+ghost use Rattle.smp_cbor.specs.Faults.{IsFirstFault};
+ghost use Rattle.smp_cbor.specs.Views.{IsPart, entries, map_bytes};
 
-/// How many bytes a head has, by its first byte (RFC 8949, section 3).
-fn width_of(first: u8) -> usize
-    ensures { result ≡ head_width first }
+use crate::fault::{CborFault, CborKind, Stop};
+use crate::heads::Head;
+use crate::keys::pairs_of;
+use crate::skipping::{head_at, stop};
+use crate::views::MapView;
+
+/// How many lists, maps and tags may stand inside the outer map, one in another.
+const INNER_LEVELS: u8 = 7;
+
+/// The map that the bytes spell, or the first fault. No bytes are the empty map.
+///
+/// All of the bytes are tested here, in time linear in their number, but for the search for repeated keys: that takes
+/// each key against all pairs before it.
+pub fn read_map(bytes: &[u8]) -> Result<MapView<'_>, CborFault>
+    // What is read is spelled so, and what is spelled so is read.
+    ensures found { IfOk result (λ m. SpellsMap bytes.now (pairs (entries m))) }
+    ensures only { (ps : Pairs) → SpellsMap bytes.now ps → IsOkAnd result (λ m. pairs (entries m) ≡ ps) }
+
+    // What is refused has this first fault, and what has a first fault is refused by it.
+    ensures fault { IfErr result (λ f. IsFirstFault bytes.now f.at f.kind) }
+    ensures refused { (at : ℕ) (kind : CborKind) → IsFirstFault bytes.now at kind → IsErrAnd result (λ f. (f.at ≡ at) × (f.kind ≡ kind)) }
+
+    // The same by the function on lists, for crates that compute with it.
+    ensures ok { IfOk result (λ m. map_of bytes.now ≡ Ok (entries m)) }
+    ensures none { OnErr result (IsErr (map_of bytes.now)) }
+
+    // What is lent is a part of the data.
+    ensures lent { IfOk result (λ m. IsPart (map_bytes m) bytes.now) }
 {
-    match first % 32 {
-        0..=23 => 1,
-        24 => 2,
-        25 => 3,
-        26 => 5,
-        _ => 9,
+    match whole_map(bytes) {
+        Ok(map) => Ok(map),
+        Err(stop) => Err(CborFault {
+            at: bytes.len().saturating_sub(stop.left),
+            kind: stop.kind,
+        }),
     }
 }
 
-/// The bytes are an echo's data with a text that begins at `start`.
-fn is_echo_at(bytes: &[u8], start: usize) -> bool
-    ensures { IsTrue result ↔ ((start ≤ length bytes.now) × (bytes.now ≡ echo_data (drop start bytes.now))) }
+/// The map that all of the bytes spell.
+#[tactic(auto, unfolding(crate::specs::Values::map_of, crate::specs::Values::pairs_from))]
+fn whole_map(bytes: &[u8]) -> Result<MapView<'_>, Stop>
+    ensures map { Gives (λ m. entries m) result (map_of bytes.now) }
+    ensures lent { IfOk result (λ m. IsPart (map_bytes m) bytes.now) }
 {
-    if bytes.len() < start {
-        return false;
+    let [first, ..] = bytes else {
+        return Ok(MapView::behind_head(INNER_LEVELS, Some(0), bytes));
+    };
+    if *first / 32 != 5 {
+        return Err(stop(bytes, CborKind::NotAMap));
     }
-    let (front, text) = bytes.split_at(start);
-    let mut spelled: ArrayVec<u8, 12> = ArrayVec::new();
-    put(&mut spelled, &[0xa1, 0x61, 0x64]);
-    put_head(&mut spelled, 3, text.len() as u64);
-    front == spelled.as_slice()
-}
-
-/// The text of the data `{"d": text}`. It is None exactly where the bytes are not the shortest spelling of
-/// such data with a text that is UTF-8.
-pub fn read_echo(bytes: &[u8]) -> Option<&str>
-    ensures found { IfSome result (λ t. bytes.now ≡ echo_data t.now) }
-    ensures none { IfNone result ((t : List ℕ) → IsUtf8 t → bytes.now ≡ echo_data t → ⊥) }
-    ensures exact { option_map (λ t. t.now) result ≡ echo_of bytes.now }
-{
-    if bytes.len() < 4 {
-        return None;
+    let (head, content) = head_at(bytes)?;
+    let Head::Map(count) = head else {
+        return Err(stop(bytes, CborKind::NotAMap));
+    };
+    let rest = pairs_of(INNER_LEVELS, count, content)?;
+    if !rest.is_empty() {
+        return Err(stop(rest, CborKind::Trailing));
     }
-    let start = 3 + width_of(bytes[3]);
-    if !is_echo_at(bytes, start) {
-        return None;
-    }
-    let (_, text) = bytes.split_at(start);
-    match str::from_utf8(text) {
-        Ok(text) => Some(text),
-        Err(_) => None,
-    }
+    Ok(MapView::behind_head(INNER_LEVELS, count, content))
 }

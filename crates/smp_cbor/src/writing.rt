@@ -1,63 +1,91 @@
-// Heads, texts and numbers in their shortest form.
-ghost use Rattle.std.specs.Prelude.{◌≡◌, ◌+◌, ◌≤◌, ◌<◌, ◌++◌, length};
+//! Writing: each call appends one head or one string, with a definite head of least width (RFC 8949, section 4.1).
+//! The caller sees to the room, at most nine bytes for a head.
+
+ghost use Rattle.std.specs.Prelude.{◌≡◌, ◌+◌, ◌<◌, ◌≤◌, ◌++◌, length};
 ghost use Rattle.arrayvec.specs.ArrayVec.{array_vec_len};
-ghost use Rattle.smp_cbor.specs.Cbor.{head, map_head, text, unsigned};
+ghost use Rattle.smp_cbor.specs.Shortest.{short_head, short_text, short_octets, short_bool};
 
 use arrayvec::ArrayVec;
 
-/// Appends bytes.
-pub(crate) fn put<const N: usize>(out: &mut ArrayVec<u8, N>, bytes: &[u8])
-    requires { array_vec_len out.old + length bytes.now ≤ N }
+/// The head of a major type with its argument, in the least width.
+#[tactic(auto, unfolding(crate::specs::Shortest::short_head))]
+fn put_head(out: &mut ArrayVec<u8, 2048>, major: u8, number: u64)
+    requires major { major < 8 }
+    requires room { array_vec_len out.old + length (short_head major number) ≤ 2048 }
+    ensures { out.new.items ≡ out.old.items ++ short_head major number }
+{
+    let top = major * 32;
+    if number < 24 {
+        out.push(top + number as u8);
+    } else if number < 256 {
+        out.push(top + 24);
+        out.push(number as u8);
+    } else if number < 65536 {
+        out.push(top + 25);
+        put_bytes(out, &(number as u16).to_be_bytes());
+    } else if number < 4294967296 {
+        out.push(top + 26);
+        put_bytes(out, &(number as u32).to_be_bytes());
+    } else {
+        out.push(top + 27);
+        put_bytes(out, &number.to_be_bytes());
+    }
+}
+
+/// The bytes as they are.
+fn put_bytes(out: &mut ArrayVec<u8, 2048>, bytes: &[u8])
+    requires { array_vec_len out.old + length bytes.now ≤ 2048 }
     ensures { out.new.items ≡ out.old.items ++ bytes.now }
 {
     let _ = out.try_extend_from_slice(bytes);
 }
 
-/// Appends the shortest head of a major type.
-#[tactic(auto, unfolding(crate::specs::Cbor::head))]
-pub(crate) fn put_head<const N: usize>(out: &mut ArrayVec<u8, N>, major: u8, number: u64)
-    requires major { major < 8 }
-    requires room { array_vec_len out.old + length (head major number) ≤ N }
-    ensures { out.new.items ≡ out.old.items ++ head major number }
-{
-    let first = major * 32;
-    if number < 24 {
-        put(out, &[first + number as u8]);
-    } else if number < 0x100 {
-        put(out, &[first + 24, number as u8]);
-    } else if number < 0x1_0000 {
-        let [b0, b1] = (number as u16).to_be_bytes();
-        put(out, &[first + 25, b0, b1]);
-    } else if number < 0x1_0000_0000 {
-        let [b0, b1, b2, b3] = (number as u32).to_be_bytes();
-        put(out, &[first + 26, b0, b1, b2, b3]);
-    } else {
-        let [b0, b1, b2, b3, b4, b5, b6, b7] = number.to_be_bytes();
-        put(out, &[first + 27, b0, b1, b2, b3, b4, b5, b6, b7]);
-    }
-}
-
-/// Appends the head of a map of so many pairs (major type 5).
+/// The head of a map of so many pairs: each key and its value are to be put after it.
 pub fn put_map(out: &mut ArrayVec<u8, 2048>, pairs: u16)
-    requires { array_vec_len out.old + length (map_head pairs) ≤ 2048 }
-    ensures { out.new.items ≡ out.old.items ++ map_head pairs }
+    requires { array_vec_len out.old + length (short_head 5 pairs) ≤ 2048 }
+    ensures { out.new.items ≡ out.old.items ++ short_head 5 pairs }
 {
     put_head(out, 5, u64::from(pairs));
 }
 
-/// Appends a text with its head (major type 3).
-pub fn put_text(out: &mut ArrayVec<u8, 2048>, bytes: &str)
-    requires { array_vec_len out.old + length (text bytes.now) ≤ 2048 }
-    ensures { out.new.items ≡ out.old.items ++ text bytes.now }
+/// The head of a list of so many items: they are to be put after it.
+pub fn put_list(out: &mut ArrayVec<u8, 2048>, items: u16)
+    requires { array_vec_len out.old + length (short_head 4 items) ≤ 2048 }
+    ensures { out.new.items ≡ out.old.items ++ short_head 4 items }
 {
-    put_head(out, 3, bytes.len() as u64);
-    put(out, bytes.as_bytes());
+    put_head(out, 4, u64::from(items));
 }
 
-/// Appends an unsigned number (major type 0).
+/// A text, with its head.
+pub fn put_text(out: &mut ArrayVec<u8, 2048>, text: &str)
+    requires { array_vec_len out.old + length (short_text text.now) ≤ 2048 }
+    ensures { out.new.items ≡ out.old.items ++ short_text text.now }
+{
+    put_head(out, 3, text.len() as u64);
+    put_bytes(out, text.as_bytes());
+}
+
+/// A string of bytes, with its head.
+pub fn put_octets(out: &mut ArrayVec<u8, 2048>, bytes: &[u8])
+    requires { array_vec_len out.old + length (short_octets bytes.now) ≤ 2048 }
+    ensures { out.new.items ≡ out.old.items ++ short_octets bytes.now }
+{
+    put_head(out, 2, bytes.len() as u64);
+    put_bytes(out, bytes);
+}
+
+/// A number from 0 on.
 pub fn put_unsigned(out: &mut ArrayVec<u8, 2048>, value: u64)
-    requires { array_vec_len out.old + length (unsigned value) ≤ 2048 }
-    ensures { out.new.items ≡ out.old.items ++ unsigned value }
+    requires { array_vec_len out.old + length (short_head 0 value) ≤ 2048 }
+    ensures { out.new.items ≡ out.old.items ++ short_head 0 value }
 {
     put_head(out, 0, value);
+}
+
+/// A truth value, in one byte.
+pub fn put_bool(out: &mut ArrayVec<u8, 2048>, value: bool)
+    requires { array_vec_len out.old + 1 ≤ 2048 }
+    ensures { out.new.items ≡ out.old.items ++ short_bool value }
+{
+    out.push(if value { 245 } else { 244 });
 }

@@ -1,0 +1,2 @@
+pub mod PacketAgain
+pub mod Keys

@@ -1,0 +1,123 @@
+//! What is written is read again.
+
+ghost use Rattle.std.specs.Prelude.{◌≡◌, ◌^◌, ◌<◌, ◌≤◌, ◌⊎◌, Some, length, min};
+ghost use Rattle.smp_header.specs.Message.{Message, packet, message_of};
+ghost use Rattle.smp_cbor.specs.Shortest.{IsText};
+ghost use Rattle.smp_model.specs.Said.{and_second, said_of, reply_message, reply_bytes};
+ghost use Rattle.smp_reply.specs.Held.{CanSay, CanSayEach, CanSayEntry, CanSayNumber};
+ghost use Rattle.smp_reply.specs.Room.{room_of};
+ghost use Rattle.smp_reply.specs.Sendable.{IsSendable};
+ghost use Rattle.smp_reply.specs.StandsFor.{stands_for};
+ghost use Rattle.smp_reply.specs.Told.{told};
+
+use crate::answer::Asked;
+use smp_cbor::shortest_is_read;
+use smp_header::Packet;
+use smp_model::{Reply, SlotEntry, Version};
+
+/// What [`write_reply`](crate::write_reply) writes is a packet, and reading its data gives the answer that the reply
+/// stands for, whatever kind of answer is asked for. The call does nothing: it stands for the law.
+pub fn reads_back(to: &Packet<'_>, reply: &Reply<'_>, asked: Asked)
+    requires operation { (to.now.op ≡ 0) ⊎ (to.now.op ≡ 2) }
+    requires version { to.now.version ≤ 3 }
+    requires sendable { IsSendable (said_of reply.now) }
+    requires fits { length (reply_bytes (message_of to.now) (said_of reply.now)) ≤ 2048 }
+    ensures is_packet { packet (reply_bytes (message_of to.now) (said_of reply.now)) ≡ Some (reply_message (message_of to.now) (said_of reply.now)) }
+    ensures answer { told asked (reply_message (message_of to.now) (said_of reply.now)).bytes ≡ stands_for (min to.now.version 1) asked (said_of reply.now) }
+{
+    let _group = to.group;
+    held(reply);
+    shortest_is_read();
+}
+
+/// The packet of a reply has no more bytes than `room_of` says, whatever packet it answers: 11 with the text of an echo
+/// and the head of that text, 200 beside the bytes of a setting or of a file, 60 with 240 for each entry of a list of
+/// images, and 200 for all else. The call does nothing: it stands for the law, by which a caller sees that a reply fits.
+pub fn fits_within(reply: &Reply<'_>)
+    ensures { (to : Message) → length (reply_bytes to (said_of reply.now)) ≤ room_of (said_of reply.now) }
+{
+    held(reply);
+}
+
+/// A text is UTF-8, and no longer than memory.
+fn is_text(_text: &str)
+    ensures { IsText _text.now }
+{}
+
+fn is_short(_bytes: &[u8])
+    ensures { length _bytes.now < 2 ^ 64 }
+{}
+
+fn is_hash(_hash: &[u8; 32])
+    ensures { length _hash.now ≡ 32 }
+{}
+
+/// The parts of a reply are as their types say.
+fn held(reply: &Reply<'_>)
+    ensures { CanSay (said_of reply.now) }
+{
+    match reply {
+        Reply::SmpError(number) => {
+            let _number = *number;
+        }
+        Reply::GroupError { group, number } => {
+            let _numbers = (*group, *number);
+        }
+        Reply::Echo(text) => is_text(text),
+        Reply::StatGroup {
+            handled,
+            dropped,
+            errors,
+        } => {
+            let _numbers = (*handled, *dropped, *errors);
+        }
+        Reply::Images { first, second } => held_entries(first, second),
+        Reply::Offset { off, .. } => {
+            let _off = *off;
+        }
+        Reply::Setting(val) => is_short(val),
+        Reply::FilePart { off, len, bytes } => {
+            let _off = *off;
+            held_number(*len);
+            is_short(bytes);
+        }
+        Reply::FileLength(len) => {
+            let _len = *len;
+        }
+        Reply::FileHash { off, len, output } => {
+            let _numbers = (*off, *len);
+            is_hash(output);
+        }
+        Reply::Empty | Reply::Parameters | Reply::StatList | Reply::FileTypes => {}
+    }
+}
+
+fn held_number(number: Option<u32>)
+    ensures { CanSayNumber number }
+{
+    if let Some(number) = number {
+        let _number = number;
+    }
+}
+
+fn held_entries(first: &SlotEntry, second: &Option<SlotEntry>)
+    ensures few { length (and_second first.now second.now) ≤ 8 }
+    ensures each { CanSayEach (and_second first.now second.now) }
+{
+    held_entry(first);
+    if let Some(second) = second {
+        held_entry(second);
+    }
+}
+
+fn held_entry(entry: &SlotEntry)
+    ensures { CanSayEntry entry.now }
+{
+    let _slot = entry.slot;
+    let Version {
+        major: _major,
+        minor: _minor,
+        revision: _revision,
+        build: _build,
+    } = entry.version;
+}
