@@ -1,0 +1,9 @@
+pub mod Afterwards
+pub mod Areas
+pub mod Arms
+pub mod Layouts
+pub mod Passing
+pub mod Places
+pub mod Remains
+pub mod Sizes
+pub mod Telling

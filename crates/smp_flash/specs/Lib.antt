@@ -1,0 +1,9 @@
+pub mod Area
+pub mod Arm
+pub mod Calls
+pub mod Geometry
+pub mod Layout
+pub mod Memory
+pub mod Region
+pub mod Remains
+pub mod State

@@ -1,0 +1,144 @@
+// The single operations of a flash, as the layers above call them.
+ghost use Rattle.std.specs.Prelude.{◌≡◌, ◌≢◌, ◌+◌, ◌*◌, ◌%◌, ◌<◌, ◌≤◌, ◌↔◌, length, true, false, None, IfOk, OnOk, OnErr, IfSome, IsTrue};
+ghost use Rattle.smp_flash.specs.Area.{area, blank, spot, Keeps, Holds, Fades, Erased, Told};
+ghost use Rattle.smp_flash.specs.Calls.{Calls, ReadsAtMost, Smaller};
+ghost use Rattle.smp_flash.specs.Geometry.{is_lawful, size_of, Regular};
+ghost use Rattle.smp_flash.specs.Region.{counts, counts_write};
+ghost use Rattle.smp_flash.specs.State.{FlashState, ended, call_fault};
+ghost use Rattle.smp_flash.specs.State.End.{WentOff};
+
+use crate::flash::{CallFault, Flash, FlashFault, Operation};
+use crate::geometry::Geometry;
+
+/// The fault of an operation, as a layer passes it on.
+fn passed_on(operation: Operation, fault: FlashFault) -> CallFault
+    ensures { result ≡ call_fault operation fault }
+{
+    match fault {
+        FlashFault::Fault => CallFault::Fault(operation),
+        FlashFault::Off => CallFault::Off,
+    }
+}
+
+/// The sizes of a flash, and what lawful ones have in common.
+pub fn sizes_of<F: Flash>(flash: &F) -> Geometry
+    ensures same { result ≡ (F.state flash.now).geometry }
+    ensures lawful { IsTrue (is_lawful result) }
+    ensures regular { Regular result }
+{
+    flash.geometry()
+}
+
+/// Reads a part that is not empty.
+pub fn read_part<F: Flash>(flash: &mut F, at: u32, into: &mut [u8]) -> Result<(), CallFault>
+    requires inside { at + length into.old ≤ size_of (F.state flash.old).geometry }
+    requires some { 0 < length into.old }
+    ensures calls { Calls (spot at (length into.old)) (ended result) (F.state flash.old) (F.state flash.new) }
+    ensures kept { (F.state flash.new).bytes ≡ (F.state flash.old).bytes }
+    ensures reads { ReadsAtMost (length into.old) (F.state flash.old).bytes_read (F.state flash.new).bytes_read }
+    ensures bytes { OnOk result (IfSome (F.state flash.old).bytes (λ held. into.new ≡ area at (length into.old) held)) }
+    ensures unspent { OnOk result ((F.state flash.new).patience ≡ (F.state flash.old).patience) }
+    ensures uncut { (F.state flash.old).on ≡ true → (F.state flash.old).aim ≢ None → ended result ≢ WentOff }
+{
+    match flash.read(at, into) {
+        Ok(()) => Ok(()),
+        Err(fault) => Err(passed_on(Operation::Read, fault)),
+    }
+}
+
+/// Writes bytes into an erased part that is not empty.
+pub fn write_part<F: Flash>(flash: &mut F, at: u32, bytes: &[u8]) -> Result<(), CallFault>
+    requires inside { at + length bytes.now ≤ size_of (F.state flash.old).geometry }
+    requires some { 0 < length bytes.now }
+    requires place { at % (F.state flash.old).geometry.unit ≡ 0 }
+    requires whole { length bytes.now % (F.state flash.old).geometry.unit ≡ 0 }
+    requires erased { IfSome (F.state flash.old).bytes (λ held. area at (length bytes.now) held ≡ blank (length bytes.now)) }
+    ensures calls { Calls (spot at (length bytes.now)) (ended result) (F.state flash.old) (F.state flash.new) }
+    ensures reads { ReadsAtMost 0 (F.state flash.old).bytes_read (F.state flash.new).bytes_read }
+    ensures ok { OnOk result (Told (Holds at bytes.now) (F.state flash.old).bytes (F.state flash.new).bytes) }
+    ensures pays { OnOk result (counts_write (F.state flash.old).geometry (F.state flash.old).aim at bytes.now ≡ true
+        → Smaller (F.state flash.old).patience (F.state flash.new).patience) }
+{
+    match flash.write(at, bytes) {
+        Ok(()) => Ok(()),
+        Err(fault) => Err(passed_on(Operation::Write, fault)),
+    }
+}
+
+/// Whether every byte is erased.
+pub fn is_erased(bytes: &[u8]) -> bool
+    ensures { IsTrue result ↔ (bytes.now ≡ blank (length bytes.now)) }
+{
+    for byte in bytes {
+        if *byte != 0xff {
+            return false;
+        }
+    }
+    true
+}
+
+/// Erases the page that begins there.
+pub fn erase_page<F: Flash>(flash: &mut F, at: u32, size: u32) -> Result<(), CallFault>
+    requires size { size ≡ (F.state flash.old).geometry.page }
+    requires some { 0 < size }
+    requires begin { at % size ≡ 0 }
+    requires inside { at + size ≤ size_of (F.state flash.old).geometry }
+    ensures calls { Calls (spot at size) (ended result) (F.state flash.old) (F.state flash.new) }
+    ensures reads { ReadsAtMost 0 (F.state flash.old).bytes_read (F.state flash.new).bytes_read }
+    ensures fades { Told (Fades at size) (F.state flash.old).bytes (F.state flash.new).bytes }
+    ensures erased { OnOk result (Told (Erased at size) (F.state flash.old).bytes (F.state flash.new).bytes) }
+    ensures pays { OnOk result (counts (F.state flash.old).geometry (F.state flash.old).aim at ≡ true
+        → Smaller (F.state flash.old).patience (F.state flash.new).patience) }
+{
+    match flash.erase(at / size) {
+        Ok(()) => Ok(()),
+        Err(fault) => Err(passed_on(Operation::Erase, fault)),
+    }
+}
+
+/// Reads `size` bytes into `into`, which has that length, and says whether they are erased.
+pub fn reads_erased<F: Flash>(
+    flash: &mut F,
+    at: u32,
+    size: u32,
+    into: &mut [u8],
+) -> Result<bool, CallFault>
+    requires room { length into.old ≡ size }
+    requires some { 0 < size }
+    requires inside { at + size ≤ size_of (F.state flash.old).geometry }
+    ensures calls { Calls (spot at size) (ended result) (F.state flash.old) (F.state flash.new) }
+    ensures kept { (F.state flash.new).bytes ≡ (F.state flash.old).bytes }
+    ensures reads { ReadsAtMost size (F.state flash.old).bytes_read (F.state flash.new).bytes_read }
+    ensures unspent { OnOk result ((F.state flash.new).patience ≡ (F.state flash.old).patience) }
+    ensures erased { IfOk result (λ erased. IfSome (F.state flash.old).bytes (λ held. IsTrue erased ↔ (area at size held ≡ blank size))) }
+{
+    read_part(flash, at, into)?;
+    Ok(is_erased(into))
+}
+
+/// Erases the page that begins there, where it is not erased already. It is read into the front of `buffer`.
+pub fn clear_page<F: Flash>(
+    flash: &mut F,
+    at: u32,
+    size: u32,
+    buffer: &mut [u8],
+) -> Result<(), CallFault>
+    requires size { size ≡ (F.state flash.old).geometry.page }
+    requires some { 0 < size }
+    requires room { size ≤ length buffer.old }
+    requires begin { at % size ≡ 0 }
+    requires inside { at + size ≤ size_of (F.state flash.old).geometry }
+    ensures calls { Calls (spot at size) (ended result) (F.state flash.old) (F.state flash.new) }
+    ensures reads { ReadsAtMost size (F.state flash.old).bytes_read (F.state flash.new).bytes_read }
+    ensures fades { Told (Fades at size) (F.state flash.old).bytes (F.state flash.new).bytes }
+    ensures erased { OnOk result (Told (Erased at size) (F.state flash.old).bytes (F.state flash.new).bytes) }
+    ensures clean { IfSome (F.state flash.old).bytes (λ held. area at size held ≡ blank size → (F.state flash.new).bytes ≡ (F.state flash.old).bytes) }
+
+    // A page that is erased already is not erased again.
+    ensures unspent { OnOk result (IfSome (F.state flash.old).bytes (λ held. area at size held ≡ blank size → (F.state flash.new).patience ≡ (F.state flash.old).patience)) }
+{
+    if reads_erased(flash, at, size, &mut buffer[..size as usize])? {
+        return Ok(());
+    }
+    erase_page(flash, at, size)
+}

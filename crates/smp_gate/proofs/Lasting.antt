@@ -1,0 +1,43 @@
+-- What a change elsewhere keeps of a bank, and how its generation moves over two changes.
+use Rattle.std.proofs.Common.{◌≡◌, ℕ, ◌+◌, Bool, true, false, Some, List, sym, ◌∙◌, ap, subst, arith}
+use Rattle.smp_flash.specs.Area.{area, Clear, Keeps}
+use Rattle.smp_flash.specs.declared.layout.BankPlace.{BankPlace}
+use Rattle.smp_gate.specs.Side.{valid_side, AtMost}
+use Rattle.smp_gate.specs.Newest.{newest, newest_side, newest_generation, generation_by, content_of, content_in, just, AgesAtMost}
+use Rattle.smp_gate.specs.Bank.{BankState, BankSays, bar, current, other}
+use Rattle.smp_gate.proofs.Sides.{newest-Stands}
+
+current_kept : (place : BankPlace) (second : Bool) (spots : List (ℕ × ℕ)) (old new : List ℕ) → Clear spots place.first.at 4096 → Clear spots place.second.at 4096 → Keeps spots old new
+    → area (current place second) 4096 new ≡ area (current place second) 4096 old
+current_kept place true spots old new a b keeps = keeps.apart place.second.at 4096 b
+current_kept place false spots old new a b keeps = keeps.apart place.first.at 4096 a
+
+other_kept : (place : BankPlace) (second : Bool) (spots : List (ℕ × ℕ)) (old new : List ℕ) → Clear spots place.first.at 4096 → Clear spots place.second.at 4096 → Keeps spots old new
+    → area (other place second) 4096 new ≡ area (other place second) 4096 old
+other_kept place true spots old new a b keeps = keeps.apart place.first.at 4096 a
+other_kept place false spots old new a b keeps = keeps.apart place.second.at 4096 b
+
+pub says_kept : (bank : BankState) (spots : List (ℕ × ℕ)) (old new : List ℕ) → Clear spots bank.place.first.at 4096 → Clear spots bank.place.second.at 4096
+    → Keeps spots old new → BankSays bank old → BankSays bank new
+says_kept bank spots old new a b keeps says = record {
+  body = says.body;
+  stands = record {
+    found = ap valid_side (current_kept bank.place bank.second spots old new a b keeps) ∙ says.stands.found;
+    behind = subst (AtMost (bar bank.second bank.generation)) (sym (ap valid_side (other_kept bank.place bank.second spots old new a b keeps))) says.stands.behind;
+    positive = says.stands.positive;
+  };
+}
+
+pub newest_kept : (place : BankPlace) (spots : List (ℕ × ℕ)) (old new : List ℕ) → Clear spots place.first.at 4096 → Clear spots place.second.at 4096
+    → Keeps spots old new → newest_side place new ≡ newest_side place old
+newest_kept place spots old new a b keeps =
+    (λ i. newest (valid_side (keeps.apart place.first.at 4096 a i)) (valid_side (keeps.apart place.second.at 4096 b i)))
+
+pub says_generation : (bank : BankState) (bytes : List ℕ) → BankSays bank bytes → newest_generation bank.place bytes ≡ bank.generation
+says_generation bank bytes says = ap generation_by (newest-Stands bank.place bank.second bank.generation says.body bytes says.stands)
+
+pub says_content : (bank : BankState) (bytes : List ℕ) (says : BankSays bank bytes) → content_of bank.place bank.cell bytes ≡ Some (just says.body)
+says_content bank bytes says = ap content_in (newest-Stands bank.place bank.second bank.generation says.body bytes says.stands)
+
+pub ages_sum : (m n : ℕ) (place : BankPlace) (old middle new : List ℕ) → AgesAtMost m place old middle → AgesAtMost n place middle new → AgesAtMost (m + n) place old new
+ages_sum m n place old middle new f g = record { kept = omega (arith, f.kept, g.kept); most = omega (arith, f.most, g.most) }

@@ -1,0 +1,33 @@
+use Rattle.smp_flash.proofs.Sizes.{regular}
+use Rattle.smp_gate.proofs.Renewing.{told_made, told_made_either, told_made_ages, told_says, told_content, second_same}
+use Rattle.smp_gate.proofs.bank.Bank.make.Goals as goal
+
+pub fill-requires-clause-regular : goal.fill-requires-clause-regular
+fill-requires-clause-regular g c = regular _ (g.met.F.Flash.lawful c.args.flash.now)
+
+pub returns-in-Ok-clause-old_or_new : goal.returns-in-Ok-clause-old_or_new
+returns-in-Ok-clause-old_or_new g c = told_made_either c.args.place c.args.body.now _ _ c.requires.place.apart c.requires.erased c.fill.ensures.either
+
+pub returns-in-Ok-clause-ages : goal.returns-in-Ok-clause-ages
+returns-in-Ok-clause-ages g c =
+    told_made_ages c.args.place c.args.body.now _ _ c.requires.erased (told_made_either c.args.place c.args.body.now _ _ c.requires.place.apart c.requires.erased c.fill.ensures.either)
+
+pub returns-in-Ok-clause-says : goal.returns-in-Ok-clause-says
+returns-in-Ok-clause-says g c = told_says _ c.args.body.now _ (told_made c.args.place c.args.body.now _ _ c.requires.place.apart c.requires.erased c.in-Ok.ensures.renewed)
+
+pub returns-in-Ok-clause-content : goal.returns-in-Ok-clause-content
+returns-in-Ok-clause-content g c =
+    told_content c.args.place c.args.cell _ _ c.args.body.now _ (told_made c.args.place c.args.body.now _ _ c.requires.place.apart c.requires.erased c.in-Ok.ensures.renewed)
+
+pub returns-in-Err-clause-old_or_new : goal.returns-in-Err-clause-old_or_new
+returns-in-Err-clause-old_or_new g c = told_made_either c.args.place c.args.body.now _ _ c.requires.place.apart c.requires.erased c.fill.ensures.either
+
+pub returns-in-Err-clause-ages : goal.returns-in-Err-clause-ages
+returns-in-Err-clause-ages g c =
+    told_made_ages c.args.place c.args.body.now _ _ c.requires.erased (told_made_either c.args.place c.args.body.now _ _ c.requires.place.apart c.requires.erased c.fill.ensures.either)
+
+pub returns-in-Ok-clause-second_kept : goal.returns-in-Ok-clause-second_kept
+returns-in-Ok-clause-second_kept g c = second_same c.args.place _ _ c.requires.place.apart c.fill.ensures.calls.keeps
+
+pub returns-in-Err-clause-second_kept : goal.returns-in-Err-clause-second_kept
+returns-in-Err-clause-second_kept g c = second_same c.args.place _ _ c.requires.place.apart c.fill.ensures.calls.keeps

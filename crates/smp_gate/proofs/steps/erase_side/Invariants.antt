@@ -1,0 +1,13 @@
+use Rattle.std.proofs.Common.{◌*◌}
+use Rattle.smp_flash.specs.Area.{spot, Told}
+use Rattle.smp_flash.specs.State.End.{Went}
+use Rattle.smp_flash.specs.Calls.{Calls, ReadsAtMost}
+use Rattle.smp_gate.proofs.Clearing.{Partly}
+use Rattle.smp_gate.proofs.steps.erase_side.Given as goal
+
+abbrev pub invariant-loop-i : goal.invariant-loop-i
+invariant-loop-i g l = record {
+  calls : Calls (spot l.at 4096) Went (g.F.Flash.state l.fn.flash) (g.F.Flash.state l.flash);
+  reads : ReadsAtMost (l.i * l.page) (g.F.Flash.state l.fn.flash).bytes_read (g.F.Flash.state l.flash).bytes_read;
+  partly : Told (Partly l.at (l.i * l.page)) (g.F.Flash.state l.fn.flash).bytes (g.F.Flash.state l.flash).bytes;
+}

@@ -1,0 +1,6 @@
+pub mod Bank
+pub mod Fault
+pub mod Head
+pub mod Newest
+pub mod Side
+pub mod Step
