@@ -1,5 +1,5 @@
 // What no clause says: worked bytes, counts of operations, and sweeps over cuts with real flashes in memory.
-ghost use Rattle.std.specs.Prelude.{◌≡◌, ◌+◌, ◌≤◌, ◌*◌, length, IsTrue, IfOk, IfSome, true};
+ghost use Rattle.std.specs.Prelude.{◌≡◌, ◌+◌, ◌≤◌, ◌*◌, length, IsTrue, OnOk, IfOk, IfSome, true};
 ghost use Rattle.smp_flash.specs.Geometry.{is_lawful};
 ghost use Rattle.smp_flash.specs.Layout.{progress_of, geometry_of};
 ghost use Rattle.smp_flash.specs.Memory.{mem_state};
@@ -63,6 +63,26 @@ fn struck(flash: &mut MemFlash, bank: &mut Bank, arm: Arm, body: &[u8]) -> Resul
     let result = bank.replace(flash, body);
     flash.power_on();
     result
+}
+
+/// Replaces the body.
+fn replaced(
+    flash: &mut MemFlash,
+    bank: &mut Bank,
+    place: BankPlace,
+    body: &[u8],
+) -> Result<(), BankFault>
+    requires body { length body.now ≤ 4080 }
+    requires same { bank.old.place ≡ place }
+    requires sure { IsTrue bank.old.sure }
+    requires fits { Fits place (mem_state flash.old).geometry }
+    requires says { IfSome (mem_state flash.old).bytes (BankSays bank.old) }
+    ensures same { bank.new.place ≡ place }
+    ensures fits { Fits place (mem_state flash.new).geometry }
+    ensures sure { OnOk result (IsTrue bank.new.sure) }
+    ensures says { OnOk result (IfSome (mem_state flash.new).bytes (BankSays bank.new)) }
+{
+    bank.replace(flash, body)
 }
 
 /// What `open` gives: the generation and the body.
@@ -134,9 +154,9 @@ fn operations_are_those_that_are_needed(rt: HostRuntime) -> Result<(), Fail> {
     let (mut flash, place) = fresh(rt.alloc(), sizes(512, 8))?;
     let mut bank = Bank::make(&mut flash, place, 8, &FIRST)?;
     assert_eq!(rt; (flash.changes(), flash.read_bytes()), (2, 0));
-    bank.replace(&mut flash, &X)?;
+    replaced(&mut flash, &mut bank, place, &X)?;
     assert_eq!(rt; (flash.changes(), flash.read_bytes()), (4, 4096));
-    bank.replace(&mut flash, &Y)?;
+    replaced(&mut flash, &mut bank, place, &Y)?;
     assert_eq!(rt; (flash.changes(), flash.read_bytes()), (8, 8192));
     let (generation, held) = opened(&mut flash, place)?;
     assert_eq!(rt; (generation, held.as_slice()), (3, Y.as_slice()));
