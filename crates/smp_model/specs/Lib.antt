@@ -6,3 +6,4 @@ pub mod Written
 pub mod Errors
 pub mod Said
 pub mod Device
+pub mod Image

@@ -12,12 +12,14 @@
 //! meaning of a packet, the bytes of a reply, and what the device answers.
 #![tactic(auto)]
 
+mod image;
 mod packet;
 mod reply;
 mod request;
 mod setting;
 mod upload;
 
+pub use image::{ImageFault, ImageHeader, ImageInfo};
 pub use packet::set_length;
 pub use reply::{Reply, SlotEntry, Version};
 pub use request::{Request, UploadPart};
