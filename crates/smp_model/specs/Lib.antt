@@ -5,5 +5,15 @@ pub mod Packets
 pub mod Written
 pub mod Errors
 pub mod Said
-pub mod Device
 pub mod Image
+pub mod Counters
+pub mod Named
+pub mod Settings
+pub mod Files
+pub mod Uploads
+pub mod Steps
+pub mod Response
+pub mod ImageGroup
+pub mod SettingsGroup
+pub mod FileGroup
+pub mod Does

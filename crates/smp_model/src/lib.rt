@@ -12,6 +12,7 @@
 //! meaning of a packet, the bytes of a reply, and what the device answers.
 #![tactic(auto)]
 
+mod device;
 mod image;
 mod packet;
 mod reply;
@@ -19,6 +20,9 @@ mod request;
 mod setting;
 mod upload;
 
+pub use device::{
+    AbstractDevice, Counters, Side, Sizes, StoredFile, StoredFiles, Upload,
+};
 pub use image::{ImageFault, ImageHeader, ImageInfo};
 pub use packet::set_length;
 pub use reply::{Reply, SlotEntry, Version};

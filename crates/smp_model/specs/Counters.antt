@@ -1,16 +1,11 @@
--- What the device answers, and how it counts: its groups OS and statistics.
+-- What the device counts, and what its groups OS and statistics answer.
 use Rattle.std.specs.Prelude.{ℕ, ◌+◌, List, Bool, Option, Some, None, min, codes, if◌then◌else◌}
 use Rattle.std.specs.Str.{bytes_eq}
+use Rattle.smp_model.specs.declared.device.Counters.{Counters}
 use Rattle.smp_model.specs.Meant as meant
 use Rattle.smp_model.specs.Meant.{Meant}
 use Rattle.smp_model.specs.Said as said
 use Rattle.smp_model.specs.Said.{Said}
-
--- the replies that were sent, the packets that were dropped, and the replies with an error
-pub record Counters : Type 0 where
-  pub handled : ℕ
-  pub dropped : ℕ
-  pub errors : ℕ
 
 abbrev pub no_counters : Counters
 no_counters = record { handled = 0; dropped = 0; errors = 0 }
