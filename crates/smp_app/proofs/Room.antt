@@ -5,7 +5,7 @@ use Rattle.std.specs.Str.{bytes_eq}
 use Rattle.smp_model.specs.Meant.{Meant, echo, reset, parameters, stat_group, stat_list}
 use Rattle.smp_model.specs.Said as said
 use Rattle.smp_model.specs.Said.{Said}
-use Rattle.smp_model.specs.Device.{Counters, os_reply, stat_group_reply}
+use Rattle.smp_model.specs.Counters.{Counters, os_reply, stat_group_reply}
 use Rattle.smp_request.specs.Room.{HasRoom}
 use Rattle.smp_reply.specs.Room.{room_of}
 use Rattle.smp_reply.specs.Sendable.{IsSendable}

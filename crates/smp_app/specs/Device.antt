@@ -6,7 +6,7 @@ use Rattle.smp_reply.specs.Sendable.{IsSendable}
 use Rattle.smp_model.specs.Meant.{Meant, reset}
 use Rattle.smp_model.specs.Meaning.{meaning, not_supported}
 use Rattle.smp_model.specs.Said.{Said, smp_error, is_error, reply_bytes}
-use Rattle.smp_model.specs.Device.{Counters, after_reply, after_drop, os_reply}
+use Rattle.smp_model.specs.Counters.{Counters, after_reply, after_drop, os_reply}
 
 -- A read or a write. The other operations are replies, or none at all.
 abbrev pub is_request : Message → Bool

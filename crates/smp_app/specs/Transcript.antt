@@ -2,7 +2,7 @@
 use Rattle.std.specs.Prelude.{ℕ, List, [], ◌∷◌, ◌++◌, Option, codes}
 use Rattle.std.specs.Option.{option_map_or}
 use Rattle.hex.specs.Hex.{encode_lower}
-use Rattle.smp_model.specs.Device.{Counters, no_counters}
+use Rattle.smp_model.specs.Counters.{Counters, no_counters}
 use Rattle.smp_app.specs.Device.{handled}
 
 -- A line of these characters.

@@ -5,7 +5,7 @@ ghost use Rattle.std.specs.Io.KnownBytes.{append_known};
 ghost use Rattle.smp_edge.specs.Faults.{HasCause};
 ghost use Rattle.smp_edge.specs.Sink.{AppendsFront};
 ghost use Rattle.smp_app.specs.Gathering.{PutOn};
-ghost use Rattle.smp_model.specs.Device.{no_counters};
+ghost use Rattle.smp_model.specs.Counters.{no_counters};
 ghost use Rattle.smp_groups.specs.Counters.{counters_of};
 ghost use Rattle.smp_app.specs.Device.{handled};
 ghost use Rattle.smp_app.specs.Transcript.{line_of, line_with, transcript};

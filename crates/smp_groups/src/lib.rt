@@ -4,7 +4,7 @@
 ghost use Rattle.std.specs.Prelude.{◌≡◌, option_map};
 ghost use Rattle.smp_model.specs.Meant.{meant_of};
 ghost use Rattle.smp_model.specs.Said.{said_of};
-ghost use Rattle.smp_model.specs.Device.{after_drop, after_reply, os_reply, stat_group_reply};
+ghost use Rattle.smp_model.specs.Counters.{after_drop, after_reply, os_reply, stat_group_reply};
 ghost use Rattle.smp_groups.specs.Counters.{counters_of};
 
 use smp_model::{Reply, Request};
