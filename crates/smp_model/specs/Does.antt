@@ -8,7 +8,7 @@ use Rattle.smp_model.specs.Meant as meant
 use Rattle.smp_model.specs.Meant.{Meant}
 use Rattle.smp_model.specs.Meaning.{meaning}
 use Rattle.smp_model.specs.Said as said
-use Rattle.smp_model.specs.Response.{Response, replies, responds}
+use Rattle.smp_model.specs.Response.{Response, replies}
 use Rattle.smp_model.specs.ImageGroup.{lists, sets_image, uploads, erases}
 use Rattle.smp_model.specs.SettingsGroup.{reads_setting, writes_setting, deletes_setting, loads_settings, saves_settings}
 use Rattle.smp_model.specs.FileGroup.{reads_file, writes_file, tells_length, hashes_file}

@@ -1,6 +1,7 @@
 -- The settings of a device: their limits, what a write or a delete makes of them, and the form in which they are stored.
 -- Limits and form are this project's own.
-use Rattle.std.specs.Prelude.{◌≡◌, ℕ, zero, suc, List, [], ◌∷◌, ◌++◌, length, take, drop, Bool, true, ◌&&◌, ◌||◌, ◌==◌, nat_lt, nat_le, Option, Some, None, is_none, option_map, flat_map, list_all, if◌then◌else◌, IsTrue}
+use Rattle.std.specs.Prelude.{◌≡◌, ℕ, zero, suc, List, [], ◌∷◌, ◌++◌, length, take, drop, Bool, ◌&&◌, ◌||◌, ◌==◌, nat_lt, nat_le, Option, Some, None, is_none, option_map, flat_map, if◌then◌else◌, IsTrue}
+use Rattle.std.specs.List.{list_all}
 use Rattle.std.specs.Str.{is_utf8}
 use Rattle.smp_model.specs.declared.setting.Setting.{Setting}
 use Rattle.smp_model.specs.Named.{named, placed, without, is_ascending}
@@ -77,16 +78,16 @@ abbrev pub in_front : Setting → Option (List Setting) → Option (List Setting
 in_front s None = None
 in_front s (Some settings) = Some (s ∷ settings)
 
-mutual
-  -- so many settings and nothing behind them
-  abbrev pub settings_from : ℕ → List ℕ → Option (List Setting)
-  settings_from zero [] = Some []
-  settings_from zero (x ∷ xs) = None
-  settings_from (suc n) bytes = settings_behind n (next_setting bytes)
+-- a setting, and those that are read behind it
+abbrev pub followed : Option (Setting × List ℕ) → (List ℕ → Option (List Setting)) → Option (List Setting)
+followed None others = None
+followed (Some (s, rest)) others = in_front s (others rest)
 
-  abbrev pub settings_behind : ℕ → Option (Setting × List ℕ) → Option (List Setting)
-  settings_behind n None = None
-  settings_behind n (Some (s, rest)) = in_front s (settings_from n rest)
+-- so many settings and nothing behind them
+abbrev pub settings_from : ℕ → List ℕ → Option (List Setting)
+settings_from zero [] = Some []
+settings_from zero (x ∷ xs) = None
+settings_from (suc n) bytes = followed (next_setting bytes) (settings_from n)
 
 abbrev pub if_within_limits : Option (List Setting) → Option (List Setting)
 if_within_limits None = None

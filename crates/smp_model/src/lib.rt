@@ -20,9 +20,7 @@ mod request;
 mod setting;
 mod upload;
 
-pub use device::{
-    AbstractDevice, Counters, Side, Sizes, StoredFile, StoredFiles, Upload,
-};
+pub use device::{AbstractDevice, Counters, Side, Sizes, StoredFile, StoredFiles, Upload};
 pub use image::{ImageFault, ImageHeader, ImageInfo};
 pub use packet::set_length;
 pub use reply::{Reply, SlotEntry, Version};
