@@ -17,3 +17,5 @@ pub mod ImageGroup
 pub mod SettingsGroup
 pub mod FileGroup
 pub mod Does
+pub mod Acknowledged
+pub mod Laws
