@@ -17,5 +17,6 @@ pub mod ImageGroup
 pub mod SettingsGroup
 pub mod FileGroup
 pub mod Does
+pub mod Handled
 pub mod Acknowledged
 pub mod Laws
