@@ -5,6 +5,9 @@ mod Volatile
 mod Pending
 mod Marks
 mod Offsets
+mod ImageSteps
 mod Saves
 mod Refusals
 mod StoredForms
+mod NamedThings
+mod Consistency

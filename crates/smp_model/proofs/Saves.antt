@@ -1,19 +1,16 @@
 -- Only a save changes what is saved.
-use Rattle.std.proofs.Common.{◌≡◌, ◌==◌, ◌⊎◌, inl, inr, ℕ, List, [], ◌∷◌, ◌++◌, length, Bool, true, false, Option, Some, None, refl, ap, subst, ◌∙◌}
+use Rattle.std.proofs.Common.{◌≡◌, ◌⊎◌, inl, inr, List, [], ◌∷◌, ◌++◌, refl, ap, subst, ◌∙◌}
 use Rattle.smp_model.specs.declared.device.AbstractDevice.{AbstractDevice}
 use Rattle.smp_model.specs.declared.device.Sizes.{Sizes}
-use Rattle.smp_model.specs.declared.upload.Mark.{Mark}
 use Rattle.smp_model.specs.Does.{does}
-use Rattle.smp_model.specs.Image.{good_image}
-use Rattle.smp_model.specs.ImageGroup.{refuses_image, lists_after, mark_of, same_mark, marks, has_hash, confirms, sets_hash, sets_no_hash, sets_image}
+use Rattle.smp_model.specs.ImageGroup.{lists_after}
 use Rattle.smp_model.specs.Laws.{EachStep}
 use Rattle.smp_model.specs.Meant as meant
 use Rattle.smp_model.specs.Meant.{Meant}
-use Rattle.smp_model.specs.Response.{Response, settling}
-use Rattle.smp_model.specs.Steps.{Change, write_setting, delete_setting, load_settings, begin_file, append_file, Step, Choose, Append, Drop, MarkPending, Confirm, Save, Run, Part, apply, applied, changed, settle, settle_steps}
-use Rattle.smp_model.specs.Uploads.{uploaded_image}
-use Rattle.smp_model.proofs.Cases.{either_way}
-use Rattle.smp_model.proofs.Marks.{uploads_of_upload, erases_of_upload, settle_of_upload}
+use Rattle.smp_model.specs.Response.{Response}
+use Rattle.smp_model.specs.Steps.{Change, write_setting, delete_setting, load_settings, begin_file, append_file, Step, Choose, Append, Drop, MarkPending, Confirm, Save, Run, Part, apply, applied, changed}
+use Rattle.smp_model.proofs.ImageSteps.{OfMarks, each_settling, each_set}
+use Rattle.smp_model.proofs.Marks.{uploads_of_upload, erases_of_upload}
 use Rattle.smp_model.proofs.Pending.{OfUpload}
 use Rattle.smp_model.proofs.Volatile.{IsVolatile, reads_setting_volatile, writes_setting_volatile, deletes_setting_volatile, reads_file_volatile, writes_file_volatile, tells_length_volatile, hashes_file_volatile}
 
@@ -47,10 +44,6 @@ saved_after (Confirm ∷ steps) rest d h = saved_after steps rest (apply Confirm
 saved_after (Save ∷ steps) rest d h = absurd h.0
 saved_after (Run c ∷ steps) rest d h = saved_after steps rest (apply (Run c) d) h.1 ∙ changed_saved c d
 
-no_saves_more : (a b : List Step) → EachStep IsNoSave a → EachStep IsNoSave b → EachStep IsNoSave (a ++ b)
-no_saves_more [] b h k = k
-no_saves_more (s ∷ a) b h k = (h.0, no_saves_more a b h.1 k)
-
 no_saves_of_upload : (steps : List Step) → OfUpload steps → EachStep IsNoSave steps
 no_saves_of_upload [] h = tt
 no_saves_of_upload (Choose a ∷ steps) h = (tt, no_saves_of_upload steps h)
@@ -71,34 +64,8 @@ no_saves_of_volatile (Confirm ∷ steps) h = absurd h.0
 no_saves_of_volatile (Save ∷ steps) h = absurd h.0
 no_saves_of_volatile (Run c ∷ steps) h = (tt, no_saves_of_volatile steps h.1)
 
-settling_no_saves : (d : AbstractDevice) (response : AbstractDevice → Response) → ((e : AbstractDevice) → NoSaves (response e)) → NoSaves (settling d response)
-settling_no_saves d response h = no_saves_more (settle_steps d) _ (no_saves_of_upload (settle_steps d) (settle_of_upload d)) (h (settle d))
-
-confirms_no_saves : (confirm confirmed : Bool) (e : AbstractDevice) → NoSaves (confirms confirm confirmed e)
-confirms_no_saves true false e = (tt, tt)
-confirms_no_saves true true e = tt
-confirms_no_saves false confirmed e = tt
-
-marks_no_saves : (m : Mark) (p : Option Mark) (e : AbstractDevice) → NoSaves (marks m p e)
-marks_no_saves m None e = (tt, tt)
-marks_no_saves m (Some k) e = either_way NoSaves (same_mark k m) (lists_after [] e) (refuses_image 28) tt tt
-
-hash_no_saves : (hash : List ℕ) (confirm : Bool) (e : AbstractDevice) → NoSaves (sets_hash hash confirm e)
-hash_no_saves hash confirm e =
-    either_way NoSaves (has_hash hash (good_image e.side.active)) (confirms confirm e.side.confirmed e) _ (confirms_no_saves confirm e.side.confirmed e)
-    (either_way NoSaves (has_hash hash (uploaded_image e.side.upload)) (marks (mark_of confirm) e.side.pending e) (refuses_image 8)
-    (marks_no_saves (mark_of confirm) e.side.pending e) tt)
-
-no_hash_no_saves : (d : AbstractDevice) (confirm : Bool) → NoSaves (sets_no_hash d confirm)
-no_hash_no_saves d true = settling_no_saves d (λ e. confirms true e.side.confirmed e) (λ e. confirms_no_saves true e.side.confirmed e)
-no_hash_no_saves d false = tt
-
-set_no_saves : (d : AbstractDevice) (hash : Option (List ℕ)) (confirm : Bool) → NoSaves (sets_image d hash confirm)
-set_no_saves d None confirm = no_hash_no_saves d confirm
-set_no_saves d (Some []) confirm = no_hash_no_saves d confirm
-set_no_saves d (Some (x ∷ xs)) confirm =
-    either_way NoSaves (length (x ∷ xs) == 32) (settling d (sets_hash (x ∷ xs) confirm)) (refuses_image 24)
-    (settling_no_saves d (sets_hash (x ∷ xs) confirm) (hash_no_saves (x ∷ xs) confirm)) tt
+marks_no_saves : OfMarks IsNoSave
+marks_no_saves = record { mark = λ m. tt; confirm = tt; drop = tt }
 
 -- what is saved where a request was broken off
 abbrev pub SavedBy : Meant → AbstractDevice → AbstractDevice → Type 0
@@ -130,8 +97,8 @@ saved_by sizes d e meant.save p = saved_by_save d e p
 saved_by sizes d e (meant.echo text) p = kept_by _ d e _ tt p
 saved_by sizes d e meant.reset p = kept_by _ d e _ tt p
 saved_by sizes d e meant.parameters p = kept_by _ d e _ tt p
-saved_by sizes d e meant.image_list p = kept_by _ d e _ (settling_no_saves d (lists_after []) (λ k. tt)) p
-saved_by sizes d e (meant.image_set hash confirm) p = kept_by _ d e _ (set_no_saves d hash confirm) p
+saved_by sizes d e meant.image_list p = kept_by _ d e _ (each_settling IsNoSave d (lists_after []) tt (λ k. tt)) p
+saved_by sizes d e (meant.image_set hash confirm) p = kept_by _ d e _ (each_set IsNoSave marks_no_saves d hash confirm) p
 saved_by sizes d e (meant.upload image len off sha part) p = kept_by _ d e _ (no_saves_of_upload _ (uploads_of_upload sizes d image len off sha part)) p
 saved_by sizes d e (meant.erase slot) p = kept_by _ d e _ (no_saves_of_upload _ (erases_of_upload d slot)) p
 saved_by sizes d e (meant.stat_group name) p = kept_by _ d e _ tt p

@@ -20,3 +20,4 @@ pub mod Does
 pub mod Handled
 pub mod Acknowledged
 pub mod Laws
+pub mod Consistent

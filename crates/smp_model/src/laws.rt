@@ -7,6 +7,7 @@ ghost use Rattle.smp_model.specs.declared.device.Upload.{Upload as Uploaded};
 ghost use Rattle.smp_model.specs.declared.setting.Setting.{Setting as Stored};
 ghost use Rattle.smp_model.specs.declared.upload.Mark.{Mark as Marked};
 ghost use Rattle.smp_model.specs.Acknowledged.{acknowledged, chosen_since, CoversAt};
+ghost use Rattle.smp_model.specs.Consistent.{HasText, IsConsistent};
 ghost use Rattle.smp_model.specs.Counters.{os_reply};
 ghost use Rattle.smp_model.specs.Does.{does};
 ghost use Rattle.smp_model.specs.Laws.{EachStep, IsApart, IsDue, PendingIsGood, ReplyHeld, Reaches, SameUpload};
@@ -83,4 +84,12 @@ pub fn stored_settings_are_read_back()
     ensures back { (settings : List Stored) → IsTrue (is_within_limits settings) → settings_in (stored_form settings) ≡ Some settings }
     ensures exact { (bytes : List ℕ) (settings : List Stored) → settings_in bytes ≡ Some settings → IsStoredForm bytes settings }
     ensures differ { (one other : List Stored) → IsTrue (is_within_limits one) → IsTrue (is_within_limits other) → stored_form one ≡ stored_form other → one ≡ other }
+{}
+
+/// A consistent device stays consistent: its settings and files within their limits and in order, its upload within its
+/// slot, and what is pending good. It does wherever a request is broken off, and after settling and a start.
+pub fn devices_stay_consistent()
+    ensures requests { (sizes : FlashSizes) (d e : Device) (m : Meant) → IsConsistent sizes d → HasText m → Part d (does sizes d m).steps e → IsConsistent sizes e }
+    ensures settled { (sizes : FlashSizes) (d e : Device) → IsConsistent sizes d → Part d (settle_steps d) e → IsConsistent sizes e }
+    ensures started { (sizes : FlashSizes) (d : Device) → IsConsistent sizes d → IsConsistent sizes (start d) }
 {}
