@@ -3,3 +3,4 @@ pub mod ErrorTable
 pub mod Has
 pub mod Read
 pub mod Room
+mod DeviceReplies

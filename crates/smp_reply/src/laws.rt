@@ -3,6 +3,10 @@
 ghost use Rattle.std.specs.Prelude.{◌≡◌, ◌^◌, ◌<◌, ◌≤◌, ◌⊎◌, Some, length, min};
 ghost use Rattle.smp_header.specs.Message.{Message, packet, message_of};
 ghost use Rattle.smp_cbor.specs.Shortest.{IsText};
+ghost use Rattle.smp_model.specs.declared.device.AbstractDevice.{AbstractDevice as Device};
+ghost use Rattle.smp_model.specs.declared.device.Sizes.{Sizes as FlashSizes};
+ghost use Rattle.smp_model.specs.Does.{does};
+ghost use Rattle.smp_model.specs.Meant.{Meant};
 ghost use Rattle.smp_model.specs.Said.{and_second, said_of, reply_message, reply_bytes};
 ghost use Rattle.smp_reply.specs.Held.{CanSay, CanSayEach, CanSayEntry, CanSayNumber};
 ghost use Rattle.smp_reply.specs.Room.{room_of};
@@ -38,6 +42,12 @@ pub fn fits_within(reply: &Reply<'_>)
 {
     held(reply);
 }
+
+/// What the abstract device answers can be sent: an error of a group is in the table of group errors, and the length of a
+/// file stands with its first part alone. The call does nothing: it stands for the law.
+pub fn device_replies_are_sendable()
+    ensures { (sizes : FlashSizes) (device : Device) (request : Meant) → IsSendable (does sizes device request).reply }
+{}
 
 /// A text is UTF-8, and no longer than memory.
 fn is_text(_text: &str)

@@ -23,7 +23,7 @@ mod refusal;
 mod writing;
 
 pub use answer::{Answer, Asked, answer_of};
-pub use laws::{fits_within, reads_back};
+pub use laws::{device_replies_are_sendable, fits_within, reads_back};
 pub use writing::write_reply;
 
 #[cfg(test)]
