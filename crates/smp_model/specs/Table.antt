@@ -61,8 +61,8 @@ pub record Row : Type 0 where
   pub operations : Operations
   pub keys : List Key
 
-abbrev pub row : ℕ → ℕ → Operations → List Key → Row
-row group command operations keys = record { group = group; command = command; operations = operations; keys = keys }
+abbrev pub row_of : ℕ → ℕ → Operations → List Key → Row
+row_of group command operations keys = record { group = group; command = command; operations = operations; keys = keys }
 
 -- the requests by name
 pub data Name : Type 0 where
@@ -90,18 +90,18 @@ pub data Name : Type 0 where
 
 abbrev pub table : Name → Row
 -- group 0, OS
-table is_echo = row 0 0 either (
+table is_echo = row_of 0 0 either (
     key (codes "d") a_text required
     ∷ [])
-table is_reset = row 0 5 a_write []
-table is_parameters = row 0 6 a_read []
+table is_reset = row_of 0 5 a_write []
+table is_parameters = row_of 0 6 a_read []
 -- group 1, image
-table is_image_list = row 1 0 a_read []
-table is_image_set = row 1 0 a_write (
+table is_image_list = row_of 1 0 a_read []
+table is_image_set = row_of 1 0 a_write (
     key (codes "hash") some_bytes optional
     ∷ key (codes "confirm") a_truth (counts_as (truth false))
     ∷ [])
-table is_upload = row 1 1 a_write (
+table is_upload = row_of 1 1 a_write (
     key (codes "image") a_number (counts_as (number 0))
     ∷ key (codes "len") a_number optional
     ∷ key (codes "off") a_number required
@@ -109,51 +109,51 @@ table is_upload = row 1 1 a_write (
     ∷ key (codes "data") some_bytes required
     ∷ key (codes "upgrade") a_truth unused
     ∷ [])
-table is_erase = row 1 5 a_write (
+table is_erase = row_of 1 5 a_write (
     key (codes "slot") a_number (always (number 1))
     ∷ [])
 -- group 2, statistics
-table is_stat_group = row 2 0 a_read (
+table is_stat_group = row_of 2 0 a_read (
     key (codes "name") a_text required
     ∷ [])
-table is_stat_list = row 2 1 a_read []
+table is_stat_list = row_of 2 1 a_read []
 -- group 3, settings
-table is_setting_read = row 3 0 a_read (
+table is_setting_read = row_of 3 0 a_read (
     key (codes "name") a_text required
     ∷ key (codes "max_size") a_number optional
     ∷ [])
-table is_setting_write = row 3 0 a_write (
+table is_setting_write = row_of 3 0 a_write (
     key (codes "name") a_text required
     ∷ key (codes "val") some_bytes required
     ∷ [])
-table is_setting_delete = row 3 1 a_write (
+table is_setting_delete = row_of 3 1 a_write (
     key (codes "name") a_text required
     ∷ [])
-table is_commit = row 3 2 a_write []
-table is_load = row 3 3 a_read []
-table is_save = row 3 3 a_write []
+table is_commit = row_of 3 2 a_write []
+table is_load = row_of 3 3 a_read []
+table is_save = row_of 3 3 a_write []
 -- group 8, files
-table is_file_read = row 8 0 a_read (
+table is_file_read = row_of 8 0 a_read (
     key (codes "off") a_number required
     ∷ key (codes "name") a_text required
     ∷ [])
-table is_file_write = row 8 0 a_write (
+table is_file_write = row_of 8 0 a_write (
     key (codes "off") a_number required
     ∷ key (codes "data") some_bytes required
     ∷ key (codes "len") a_number optional
     ∷ key (codes "name") a_text required
     ∷ [])
-table is_file_status = row 8 1 a_read (
+table is_file_status = row_of 8 1 a_read (
     key (codes "name") a_text required
     ∷ [])
-table is_file_hash = row 8 2 a_read (
+table is_file_hash = row_of 8 2 a_read (
     key (codes "name") a_text required
     ∷ key (codes "type") a_text optional
     ∷ key (codes "off") a_number (always (number 0))
     ∷ key (codes "len") a_number optional
     ∷ [])
-table is_file_types = row 8 3 a_read []
-table is_file_close = row 8 4 a_write []
+table is_file_types = row_of 8 3 a_read []
+table is_file_close = row_of 8 4 a_write []
 
 -- every row
 abbrev pub names : List Name

@@ -9,6 +9,7 @@ ghost use Rattle.smp_request.specs.Parts.{pair_bytes, one_if};
 use arrayvec::ArrayVec;
 use smp_cbor::{put_bool, put_octets, put_text, put_unsigned};
 
+/// A key and a whole number, where there is one.
 pub fn put_number(out: &mut ArrayVec<u8, 2048>, key: &str, value: Option<u32>)
     requires { array_vec_len out.old + length (pair_bytes key.now (option_map number_field value)) ≤ 2048 }
     ensures { out.new.items ≡ out.old.items ++ pair_bytes key.now (option_map number_field value) }
@@ -19,6 +20,7 @@ pub fn put_number(out: &mut ArrayVec<u8, 2048>, key: &str, value: Option<u32>)
     }
 }
 
+/// A key and a string of bytes, where there is one.
 pub fn put_bytes(out: &mut ArrayVec<u8, 2048>, key: &str, value: Option<&[u8]>)
     requires { array_vec_len out.old + length (pair_bytes key.now (option_map bytes_field (option_map (λ b. b.now) value))) ≤ 2048 }
     ensures { out.new.items ≡ out.old.items ++ pair_bytes key.now (option_map bytes_field (option_map (λ b. b.now) value.entry)) }
@@ -29,6 +31,7 @@ pub fn put_bytes(out: &mut ArrayVec<u8, 2048>, key: &str, value: Option<&[u8]>)
     }
 }
 
+/// A key and a text, where there is one.
 pub fn put_words(out: &mut ArrayVec<u8, 2048>, key: &str, value: Option<&str>)
     requires { array_vec_len out.old + length (pair_bytes key.now (option_map words (option_map (λ t. t.now) value))) ≤ 2048 }
     ensures { out.new.items ≡ out.old.items ++ pair_bytes key.now (option_map words (option_map (λ t. t.now) value.entry)) }
@@ -39,6 +42,7 @@ pub fn put_words(out: &mut ArrayVec<u8, 2048>, key: &str, value: Option<&str>)
     }
 }
 
+/// A key and a truth value, where there is one.
 pub fn put_truth(out: &mut ArrayVec<u8, 2048>, key: &str, value: Option<bool>)
     requires { array_vec_len out.old + length (pair_bytes key.now (option_map truth value)) ≤ 2048 }
     ensures { out.new.items ≡ out.old.items ++ pair_bytes key.now (option_map truth value) }
@@ -73,6 +77,7 @@ pub fn count_number(value: Option<u32>) -> u16
     }
 }
 
+/// How many pairs that is: one or none.
 pub fn count_bytes(value: Option<&[u8]>) -> u16
     ensures { result ≡ one_if (option_map bytes_field (option_map (λ b. b.now) value.entry)) }
 {
@@ -82,6 +87,7 @@ pub fn count_bytes(value: Option<&[u8]>) -> u16
     }
 }
 
+/// How many pairs that is: one or none.
 pub fn count_words(value: Option<&str>) -> u16
     ensures { result ≡ one_if (option_map words (option_map (λ t. t.now) value.entry)) }
 {
@@ -91,6 +97,7 @@ pub fn count_words(value: Option<&str>) -> u16
     }
 }
 
+/// How many pairs that is: one or none.
 pub fn count_truth(value: Option<bool>) -> u16
     ensures { result ≡ one_if (option_map truth value) }
 {
