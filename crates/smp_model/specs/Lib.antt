@@ -17,3 +17,4 @@ pub mod ImageGroup
 pub mod SettingsGroup
 pub mod FileGroup
 pub mod Does
+pub mod Plain

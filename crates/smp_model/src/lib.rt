@@ -15,6 +15,7 @@
 mod device;
 mod image;
 mod packet;
+mod plain;
 mod reply;
 mod request;
 mod setting;
@@ -23,6 +24,7 @@ mod upload;
 pub use device::{AbstractDevice, Counters, Side, Sizes, StoredFile, StoredFiles, Upload};
 pub use image::{ImageFault, ImageHeader, ImageInfo};
 pub use packet::set_length;
+pub use plain::{PlainChange, PlainResponse, PlainStep};
 pub use reply::{Reply, SlotEntry, Version};
 pub use request::{Request, UploadPart};
 pub use setting::{Pairs, Setting};

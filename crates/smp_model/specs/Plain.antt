@@ -1,0 +1,38 @@
+-- What the plain program's values stand for, and what it asks of a device.
+use Rattle.std.specs.Prelude.{ℕ, ◌≤◌, ◌<◌, ◌^◌, length, map as each, option_map, IfSome}
+use Rattle.std.specs.List.{All}
+use Rattle.smp_model.specs.declared.device.AbstractDevice.{AbstractDevice}
+use Rattle.smp_model.specs.declared.plain.PlainChange.{PlainChange}
+use Rattle.smp_model.specs.declared.plain.PlainChange.TheVariants as changes
+use Rattle.smp_model.specs.declared.plain.PlainStep.{PlainStep}
+use Rattle.smp_model.specs.declared.plain.PlainStep.TheVariants as steps
+use Rattle.smp_model.specs.declared.plain.PlainResponse.{PlainResponse}
+use Rattle.smp_model.specs.Said.{said_of}
+use Rattle.smp_model.specs.Steps.{Change, write_setting, delete_setting, load_settings, begin_file, append_file, Step, Choose, Append, Drop, MarkPending, Confirm, Save, Run}
+use Rattle.smp_model.specs.Response.{Response, responds}
+
+abbrev pub change_of : PlainChange → Change
+change_of (changes.WriteSetting name val) = write_setting name.now val.now
+change_of (changes.DeleteSetting name) = delete_setting name.now
+change_of changes.LoadSettings = load_settings
+change_of (changes.BeginFile name announced part) = begin_file name.now announced part.now
+change_of (changes.AppendFile name part) = append_file name.now part.now
+
+abbrev pub step_of : PlainStep → Step
+step_of (steps.Choose announcement) = Choose announcement
+step_of (steps.Append bytes) = Append bytes.now
+step_of steps.Drop = Drop
+step_of (steps.MarkPending mark) = MarkPending mark
+step_of steps.Confirm = Confirm
+step_of steps.Save = Save
+step_of (steps.Run change) = Run (change_of change)
+
+abbrev pub response_of : PlainResponse → Response
+response_of r = responds (said_of r.reply) (each step_of r.steps.items)
+
+-- The numbers that a device has to answer fit their types: slot 0 has fewer bytes than 32 bits count, and no upload and
+-- no file has more bytes than were announced.
+pub record IsSound (d : AbstractDevice) : Type 0 where
+  pub active : length d.side.active < 2 ^ 32
+  pub upload : IfSome d.side.upload (λ u. length u.accepted ≤ u.announcement.length)
+  pub files : All (λ f. length f.held ≤ f.announced) d.files
