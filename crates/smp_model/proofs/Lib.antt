@@ -1,2 +1,3 @@
 pub mod PacketAgain
 pub mod Keys
+pub mod StoredSize

@@ -1,7 +1,8 @@
 -- What the plain program's values stand for, and what it asks of a device.
-use Rattle.std.specs.Prelude.{ℕ, ◌≤◌, ◌<◌, ◌^◌, length, map as each, option_map, IfSome}
+use Rattle.std.specs.Prelude.{ℕ, ◌+◌, ◌≤◌, ◌<◌, ◌^◌, List, length, map as each, IfSome, if◌then◌else◌}
 use Rattle.std.specs.List.{All}
 use Rattle.smp_model.specs.declared.device.AbstractDevice.{AbstractDevice}
+use Rattle.smp_model.specs.declared.setting.Setting.{Setting}
 use Rattle.smp_model.specs.declared.plain.PlainChange.{PlainChange}
 use Rattle.smp_model.specs.declared.plain.PlainChange.TheVariants as changes
 use Rattle.smp_model.specs.declared.plain.PlainStep.{PlainStep}
@@ -10,6 +11,8 @@ use Rattle.smp_model.specs.declared.plain.PlainResponse.{PlainResponse}
 use Rattle.smp_model.specs.Said.{said_of}
 use Rattle.smp_model.specs.Steps.{Change, write_setting, delete_setting, load_settings, begin_file, append_file, Step, Choose, Append, Drop, MarkPending, Confirm, Save, Run}
 use Rattle.smp_model.specs.Response.{Response, responds}
+use Rattle.smp_model.specs.Named.{comes_before}
+use Rattle.smp_model.specs.Settings.{stored_setting}
 
 abbrev pub change_of : PlainChange → Change
 change_of (changes.WriteSetting name val) = write_setting name.now val.now
@@ -36,3 +39,9 @@ pub record IsSound (d : AbstractDevice) : Type 0 where
   pub active : length d.side.active < 2 ^ 32
   pub upload : IfSome d.side.upload (λ u. length u.accepted ≤ u.announcement.length)
   pub files : All (λ f. length f.held ≤ f.announced) d.files
+
+-- the bytes that a setting takes in the stored form where one of this name is written beside it
+abbrev pub size_beside : List ℕ → Setting → ℕ
+size_beside name s =
+    (if comes_before s.name name then length (stored_setting s) else 0)
+    + (if comes_before name s.name then length (stored_setting s) else 0)
