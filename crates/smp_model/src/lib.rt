@@ -16,6 +16,7 @@ mod device;
 mod image;
 mod packet;
 mod plain;
+mod plain_files;
 mod plain_settings;
 mod reply;
 mod request;
