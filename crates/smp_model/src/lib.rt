@@ -17,6 +17,7 @@ mod image;
 mod packet;
 mod plain;
 mod plain_files;
+mod plain_image;
 mod plain_settings;
 mod reply;
 mod request;
