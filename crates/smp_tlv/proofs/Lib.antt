@@ -1,0 +1,4 @@
+pub mod Looking
+pub mod Walks
+pub mod Images
+pub mod Hashing
