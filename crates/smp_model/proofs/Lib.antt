@@ -1,2 +1,4 @@
 pub mod PacketAgain
 pub mod Keys
+pub mod Tlvs
+pub mod Made

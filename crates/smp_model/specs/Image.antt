@@ -226,7 +226,7 @@ image_of b = test (nat_le 32 (length b)) faults.Short (with_header (header_of (t
 
 abbrev pub if_hashed : List ℕ → Result ImageInfo ImageFault → Option ImageInfo
 if_hashed b (Ok i) = if bytes_eq i.hash (sha256 (take i.covered b)) then Some i else None
-if_hashed b (Err fault) = None
+if_hashed b (Err _) = None
 
 -- the image whose hash is the SHA-256 of its covered bytes
 unfoldable pub good_image : List ℕ → Option ImageInfo

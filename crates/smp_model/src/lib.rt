@@ -19,7 +19,7 @@ mod request;
 mod setting;
 mod upload;
 
-pub use image::{ImageFault, ImageHeader, ImageInfo};
+pub use image::{ImageFault, ImageHeader, ImageInfo, make_image};
 pub use packet::set_length;
 pub use reply::{Reply, SlotEntry, Version};
 pub use request::{Request, UploadPart};

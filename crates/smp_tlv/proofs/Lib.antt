@@ -1,4 +1,3 @@
-pub mod Looking
 pub mod Walks
 pub mod Images
 pub mod Hashing
