@@ -1,3 +1,5 @@
 pub mod PacketAgain
 pub mod Keys
 pub mod StoredSize
+pub mod Tlvs
+pub mod Made

@@ -25,7 +25,7 @@ mod setting;
 mod upload;
 
 pub use device::{AbstractDevice, Counters, Side, Sizes, StoredFile, StoredFiles, Upload};
-pub use image::{ImageFault, ImageHeader, ImageInfo};
+pub use image::{ImageFault, ImageHeader, ImageInfo, make_image};
 pub use packet::set_length;
 pub use plain::{PlainChange, PlainResponse, PlainStep};
 pub use reply::{Reply, SlotEntry, Version};
