@@ -1,5 +1,6 @@
 pub mod PacketAgain
 pub mod Keys
 pub mod StoredSize
+pub mod PlainImage
 pub mod Tlvs
 pub mod Made

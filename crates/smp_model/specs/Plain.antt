@@ -1,5 +1,5 @@
 -- What the plain program's values stand for, and what it asks of a device.
-use Rattle.std.specs.Prelude.{ℕ, ◌+◌, ◌≤◌, ◌<◌, ◌^◌, ◌==◌, List, [], ◌∷◌, length, map as each, IfSome, if◌then◌else◌}
+use Rattle.std.specs.Prelude.{ℕ, ◌+◌, ◌≤◌, ◌<◌, ◌^◌, ◌==◌, List, [], ◌∷◌, length, map as each, Option, Some, None, IfSome, if◌then◌else◌}
 use Rattle.std.specs.List.{All}
 use Rattle.smp_model.specs.declared.device.AbstractDevice.{AbstractDevice}
 use Rattle.smp_model.specs.declared.setting.Setting.{Setting}
@@ -10,7 +10,7 @@ use Rattle.smp_model.specs.declared.plain.PlainStep.TheVariants as steps
 use Rattle.smp_model.specs.declared.plain.PlainResponse.{PlainResponse}
 use Rattle.smp_model.specs.declared.plain_image.FoundHash.{FoundHash}
 use Rattle.smp_model.specs.declared.plain_image.FoundHash.TheVariants as founds
-use Rattle.smp_model.specs.Image.{Tlv}
+use Rattle.smp_model.specs.Image.{Tlv, hash_type}
 use Rattle.smp_model.specs.Said.{said_of}
 use Rattle.smp_model.specs.Steps.{Change, write_setting, delete_setting, load_settings, begin_file, append_file, Step, Choose, Append, Drop, MarkPending, Confirm, Save, Run}
 use Rattle.smp_model.specs.Response.{Response, responds}
@@ -49,11 +49,24 @@ size_beside name s =
     (if comes_before s.name name then length (stored_setting s) else 0)
     + (if comes_before name s.name then length (stored_setting s) else 0)
 
--- The hashes among TLVs: how many there are, and the only one where it has 32 bytes.
-abbrev pub hash_found : Tlv → FoundHash
-hash_found t = if length t.value == 32 then founds.One t.value else founds.Unfit
+-- The hashes among TLVs: none, the value of the only one where it has 32 bytes, or unfit.
+abbrev pub hash_found : List ℕ → FoundHash
+hash_found value = if length value == 32 then founds.One value else founds.Unfit
+
+abbrev pub found_before : List ℕ → FoundHash → FoundHash
+found_before value founds.Nothing = hash_found value
+found_before value (founds.One hash) = founds.Unfit
+found_before value founds.Unfit = founds.Unfit
+
+-- those of a TLV and of the ones behind it
+abbrev pub found_with : (kind : ℕ) (value : List ℕ) → FoundHash → FoundHash
+found_with kind value others = if kind == hash_type then found_before value others else others
 
 abbrev pub found_in : List Tlv → FoundHash
 found_in [] = founds.Nothing
-found_in (t ∷ []) = hash_found t
-found_in (t ∷ u ∷ ts) = founds.Unfit
+found_in (t ∷ ts) = found_with t.kind t.value (found_in ts)
+
+abbrev pub hash_of : FoundHash → Option (List ℕ)
+hash_of founds.Nothing = None
+hash_of (founds.One hash) = Some hash
+hash_of founds.Unfit = None

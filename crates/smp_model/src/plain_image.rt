@@ -1,10 +1,11 @@
 //! The plain program's reading of images.
 
 ghost use Rattle.std.specs.Prelude.{◌≡◌, ◌+◌, ◌-◌, ◌≤◌, ◌<◌, ◌^◌, ◌==◌, ◌&&◌, ℕ, List, ◌∷◌, length, take, drop, filter, option_map, is_some};
-ghost use Rattle.smp_model.specs.Image.{Tlv, number_16, number_32, header_of, is_hash, tlvs_of, area_of, has_protected, only_hash, info_of, hashed, with_tlvs, with_header, covered_of, image_of, good_image};
-ghost use Rattle.smp_model.specs.Plain.{hash_found, found_in};
+ghost use Rattle.smp_model.specs.Image.{Tlv, number_16, number_32, header_of, is_hash, tlvs_of, area_of, has_protected, only_hash, info_of, hashed, with_tlvs, with_header, covered_of, image_of, if_hashed, good_image};
+ghost use Rattle.smp_model.specs.Plain.{hash_found, found_before, found_with, found_in, hash_of};
 
 use crate::plain_files::sha256_of;
+use crate::plain_settings::front;
 use crate::{ImageFault, ImageHeader, ImageInfo, Version};
 
 /// The magic of an image, that of its protected TLVs, and that of the others.
@@ -70,9 +71,8 @@ fn header_of(b: &[u8]) -> ImageHeader
     }
 }
 
-/// The value of a hash.
 fn hash_found(value: &[u8]) -> FoundHash
-    ensures { (k : ℕ) → result ≡ hash_found (record { kind = k; value = value.now }) }
+    ensures { result ≡ hash_found value.now }
 {
     match <[u8; 32]>::try_from(value) {
         Ok(hash) => FoundHash::One(hash),
@@ -80,36 +80,160 @@ fn hash_found(value: &[u8]) -> FoundHash
     }
 }
 
-/// The hashes of a TLV and of those behind it.
-fn found_before(kind: u16, value: &[u8], others: FoundHash) -> FoundHash
-    ensures { (ts : List Tlv) → others ≡ found_in (filter is_hash ts) → result ≡ found_in (filter is_hash (record { kind = kind; value = value.now } ∷ ts)) }
+fn found_before(value: &[u8], others: FoundHash) -> FoundHash
+    ensures { result ≡ found_before value.now others }
 {
-    if kind != HASH {
-        return others;
-    }
     match others {
         FoundHash::Nothing => hash_found(value),
-        _ => FoundHash::Unfit,
+        FoundHash::One(_) => FoundHash::Unfit,
+        FoundHash::Unfit => FoundHash::Unfit,
+    }
+}
+
+/// The hashes of a TLV and of those behind it.
+fn found_with(kind: u16, value: &[u8], others: FoundHash) -> FoundHash
+    ensures { result ≡ found_with kind value.now others }
+{
+    if kind == HASH {
+        found_before(value, others)
+    } else {
+        others
     }
 }
 
 /// The hashes among the TLVs that fill the bytes.
 fn found_among(bytes: &[u8]) -> Option<FoundHash>
-    ensures { result ≡ option_map (λ ts. found_in (filter is_hash ts)) (tlvs_of bytes.now) }
+    ensures { result ≡ option_map found_in (tlvs_of bytes.now) }
 {
-    match bytes {
-        [] => Some(FoundHash::Nothing),
-        [k, l, m, n, rest @ ..] => {
-            let kind = u16::from_le_bytes([*k, *l]);
-            let size = u16::from_le_bytes([*m, *n]) as usize;
-            if rest.len() < size {
-                return None;
-            }
-            match found_among(&rest[size..]) {
-                None => None,
-                Some(others) => Some(found_before(kind, &rest[..size], others)),
-            }
-        }
-        _ => None,
+    if bytes.is_empty() {
+        return Some(FoundHash::Nothing);
+    }
+    if bytes.len() < 4 {
+        return None;
+    }
+    let size = number_16(bytes, 2) as usize;
+    if bytes.len() < 4 + size {
+        return None;
+    }
+    let (_, behind) = bytes.split_at(4);
+    let (value, rest) = behind.split_at(size);
+    match found_among(rest) {
+        None => None,
+        Some(others) => Some(found_with(number_16(bytes, 0), value, others)),
+    }
+}
+
+/// The hashes in an area of this magic at the front of the bytes.
+fn area_of(magic: u16, bytes: &[u8]) -> Option<FoundHash>
+    requires { 4 ≤ length bytes.now }
+    ensures { result ≡ option_map found_in (area_of magic bytes.now) }
+{
+    let size = number_16(bytes, 2) as usize;
+    if number_16(bytes, 0) == magic && 4 <= size && size <= bytes.len() {
+        found_among(&bytes[4..size])
+    } else {
+        None
+    }
+}
+
+fn has_protected(size: u16, bytes: &[u8]) -> bool
+    requires { 4 ≤ length bytes.now }
+    ensures { result ≡ has_protected size bytes.now }
+{
+    size == 0 || number_16(bytes, 2) == size && area_of(PROTECTED_MAGIC, bytes).is_some()
+}
+
+/// What is known by the hashes of an image.
+fn info_of(
+    header: &ImageHeader,
+    size: u16,
+    found: FoundHash,
+) -> Result<ImageInfo, ImageFault>
+    requires { covered_of header.now + size < 2 ^ 32 }
+    ensures { result ≡ info_of header.now size (hash_of found) }
+{
+    let covered = header.header_size as u32 + header.image_size + header.protected_size as u32;
+    match found {
+        FoundHash::One(hash) => Ok(ImageInfo {
+            version: header.version,
+            flags: header.flags,
+            covered,
+            end: covered + size as u32,
+            hash,
+        }),
+        _ => Err(ImageFault::NoHash),
+    }
+}
+
+/// What is known by the TLVs at the front of the bytes.
+fn with_tlvs(header: &ImageHeader, bytes: &[u8]) -> Result<ImageInfo, ImageFault>
+    requires room { 4 ≤ length bytes.now }
+    requires small { covered_of header.now + length bytes.now < 2 ^ 32 }
+    ensures { result ≡ with_tlvs header.now bytes.now }
+{
+    match area_of(TLV_MAGIC, bytes) {
+        None => Err(ImageFault::Tlvs),
+        Some(found) => info_of(header, number_16(bytes, 2), found),
+    }
+}
+
+/// What is known by the header and all bytes.
+fn with_header(header: &ImageHeader, bytes: &[u8]) -> Result<ImageInfo, ImageFault>
+    requires { length bytes.now < 2 ^ 32 }
+    ensures { result ≡ with_header header.now bytes.now }
+{
+    if header.magic != IMAGE_MAGIC {
+        return Err(ImageFault::Magic);
+    }
+    if header.header_size < 32 {
+        return Err(ImageFault::HeaderSize);
+    }
+    if header.flags & ENCRYPTED != 0 {
+        return Err(ImageFault::Encrypted);
+    }
+    let payload_end = header.header_size as usize + header.image_size as usize;
+    let covered = payload_end + header.protected_size as usize;
+    if bytes.len() < covered + 4 {
+        return Err(ImageFault::Bounds);
+    }
+    let (_, behind_payload) = bytes.split_at(payload_end);
+    if !has_protected(header.protected_size, behind_payload) {
+        return Err(ImageFault::Protected);
+    }
+    let (_, tlvs) = bytes.split_at(covered);
+    with_tlvs(header, tlvs)
+}
+
+#[tactic(auto, unfolding(crate::specs::Image::image_of))]
+fn image_of(bytes: &[u8]) -> Result<ImageInfo, ImageFault>
+    requires { length bytes.now < 2 ^ 32 }
+    ensures { result ≡ image_of bytes.now }
+{
+    if bytes.len() < 32 {
+        return Err(ImageFault::Short);
+    }
+    with_header(&header_of(&bytes[..32]), bytes)
+}
+
+#[tactic(auto, unfolding(crate::specs::Image::good_image))]
+/// The image at the front of the bytes, where its hash is that of the bytes that it covers.
+pub(crate) fn good_image(bytes: &[u8]) -> Option<ImageInfo>
+    requires { length bytes.now < 2 ^ 32 }
+    ensures { result ≡ good_image bytes.now }
+{
+    match image_of(bytes) {
+        Err(_) => None,
+        Ok(info) => if_hashed(bytes, &info),
+    }
+}
+
+fn if_hashed(bytes: &[u8], info: &ImageInfo) -> Option<ImageInfo>
+    ensures { result ≡ if_hashed bytes.now (Ok info.now) }
+{
+    let covered = front(bytes, info.covered as usize);
+    if info.hash == sha256_of(covered) {
+        Some(*info)
+    } else {
+        None
     }
 }
