@@ -1,5 +1,5 @@
 -- What the plain program's values stand for, and what it asks of a device.
-use Rattle.std.specs.Prelude.{ℕ, ◌+◌, ◌≤◌, ◌<◌, ◌^◌, ◌==◌, List, [], ◌∷◌, length, map as each, Option, Some, None, IfSome, if◌then◌else◌}
+use Rattle.std.specs.Prelude.{ℕ, ◌+◌, ◌≤◌, ◌<◌, ◌^◌, ◌==◌, List, [], ◌∷◌, ◌++◌, length, map as each, option_map, Option, Some, None, IfSome, if◌then◌else◌}
 use Rattle.std.specs.List.{All}
 use Rattle.smp_model.specs.declared.device.AbstractDevice.{AbstractDevice}
 use Rattle.smp_model.specs.declared.setting.Setting.{Setting}
@@ -10,9 +10,10 @@ use Rattle.smp_model.specs.declared.plain.PlainStep.TheVariants as steps
 use Rattle.smp_model.specs.declared.plain.PlainResponse.{PlainResponse}
 use Rattle.smp_model.specs.declared.plain_image.FoundHash.{FoundHash}
 use Rattle.smp_model.specs.declared.plain_image.FoundHash.TheVariants as founds
+use Rattle.smp_model.specs.declared.plain_uploads.Settled.{Settled}
 use Rattle.smp_model.specs.Image.{Tlv, hash_type}
 use Rattle.smp_model.specs.Said.{said_of}
-use Rattle.smp_model.specs.Steps.{Change, write_setting, delete_setting, load_settings, begin_file, append_file, Step, Choose, Append, Drop, MarkPending, Confirm, Save, Run}
+use Rattle.smp_model.specs.Steps.{Change, write_setting, delete_setting, load_settings, begin_file, append_file, Step, Choose, Append, Drop, MarkPending, Confirm, Save, Run, with_upload, settle_steps}
 use Rattle.smp_model.specs.Response.{Response, responds}
 use Rattle.smp_model.specs.Named.{comes_before}
 use Rattle.smp_model.specs.Settings.{stored_setting}
@@ -70,3 +71,11 @@ abbrev pub hash_of : FoundHash → Option (List ℕ)
 hash_of founds.Nothing = None
 hash_of (founds.One hash) = Some hash
 hash_of founds.Unfit = None
+
+-- a device whose settling left this upload
+abbrev pub settled_of : Settled → AbstractDevice
+settled_of s = with_upload (option_map (λ u. u.now) s.upload) s.device.now
+
+-- the response of a settled device, behind the steps of settling
+abbrev pub behind_settling : AbstractDevice → Response → Response
+behind_settling d response = responds response.reply (settle_steps d ++ response.steps)

@@ -19,6 +19,7 @@ mod plain;
 mod plain_files;
 mod plain_image;
 mod plain_settings;
+mod plain_uploads;
 mod reply;
 mod request;
 mod setting;
