@@ -87,7 +87,6 @@ next_of r kind size value rest k n fits is_value is_rest =
     tlvs_next r (omega arith) (omega arith)
     ∙ ap (λ (p : ℕ × List ℕ × List ℕ). option_map (λ ts. record { kind = p.0; value = p.1 } ∷ ts) (tlvs_of p.2)) (triple k v t)
 
-
 -- reading what was written
 pub tlvs_again : (ts : List Tlv) → AreTlvs ts → tlvs_of (tlvs_bytes ts) ≡ Some ts
 unfolding tlvs_of
@@ -124,7 +123,7 @@ head_and_rest : (t : Tlv) (k l m n : ℕ) (value rest : List ℕ) (us : List Tlv
     → t.value ≡ value → rest ≡ tlvs_bytes us → value ++ rest ≡ b → tlv_bytes t ++ tlvs_bytes us ≡ k ∷ l ∷ m ∷ n ∷ b
 head_and_rest t k l m n value rest us b kinds sizes is_value is_rest whole =
     let front : tlv_bytes t ≡ k ∷ l ∷ m ∷ n ∷ value = ap (λ (v : List ℕ). v ++ (to_le_bytes w16 (length t.value) ++ t.value)) kinds
-        ∙ (ap (λ (v : List ℕ). k ∷ l ∷ (v ++ t.value)) sizes ∙ ap (λ (v : List ℕ). k ∷ l ∷ m ∷ n ∷ v) is_value) in
+    ∙ (ap (λ (v : List ℕ). k ∷ l ∷ (v ++ t.value)) sizes ∙ ap (λ (v : List ℕ). k ∷ l ∷ m ∷ n ∷ v) is_value) in
     ap (λ (v : List ℕ). v ++ tlvs_bytes us) front ∙ (ap (λ (v : List ℕ). k ∷ l ∷ m ∷ n ∷ (value ++ v)) (sym is_rest) ∙ ap (λ (v : List ℕ). k ∷ l ∷ m ∷ n ∷ v) whole)
 
 pub tlvs_sound : (most : ℕ) (b : List ℕ) (ts : List Tlv) → AreBytes b → tlvs_among most b ≡ Some ts → AreTlvs ts × (b ≡ tlvs_bytes ts)

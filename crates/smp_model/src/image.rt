@@ -107,11 +107,7 @@ fn header_bytes(header: &ImageHeader) -> [u8; 32]
 }
 
 /// The header and the payload of the image that `make_image` writes, with room for its TLVs.
-fn covered_part(
-    alloc: Global,
-    payload: &[u8],
-    version: Version,
-) -> Result<Vec<u8>, AllocError>
+fn covered_part(alloc: Global, payload: &[u8], version: Version) -> Result<Vec<u8>, AllocError>
     requires { length payload.now + 72 < 2 ^ 32 }
     ensures { IfOk result (λ bytes. bytes.items ≡ made_covered payload.now version) }
 {
@@ -133,11 +129,7 @@ fn covered_part(
 
 /// Writes the image of a payload: a header of 32 bytes with flags 0, the payload, and TLVs that have the hash alone. It
 /// fails only for want of memory.
-pub fn make_image(
-    alloc: Global,
-    payload: &[u8],
-    version: Version,
-) -> Result<Octets, AllocError>
+pub fn make_image(alloc: Global, payload: &[u8], version: Version) -> Result<Octets, AllocError>
     requires { length payload.now + 72 < 2 ^ 32 }
     ensures made { IfOk result (λ image. image ≡ made_image payload.now version) }
 {

@@ -1,12 +1,21 @@
 //! The abstract device as a plain program, for tests alone: it computes in memory what the definitions say, slowly and
 //! with copies.
 
-ghost use Rattle.std.specs.Prelude.{◌≡◌, ◌≤◌, ◌+◌, [], ◌∷◌, ◌++◌, length};
+ghost use Rattle.std.specs.Prelude.{◌≡◌, ◌≤◌, ◌<◌, ◌+◌, [], ◌∷◌, length};
+ghost use Rattle.smp_model.specs.Counters.{stat_group_reply};
+ghost use Rattle.smp_model.specs.Does.{does};
+ghost use Rattle.smp_model.specs.Meant.{meant_of};
 ghost use Rattle.smp_model.specs.Said.{said_of};
 ghost use Rattle.smp_model.specs.Response.{replies, refuses, responds};
-ghost use Rattle.smp_model.specs.Plain.{step_of, response_of};
+ghost use Rattle.smp_model.specs.Plain.{step_of, response_of, IsSound};
 
-use crate::{Announcement, Mark, Reply};
+use crate::plain_files::{hashes_file, reads_file, tells_length, writes_file};
+use crate::plain_images::{erases, lists, sets_image};
+use crate::plain_settings::{
+    deletes_setting, loads_settings, reads_setting, saves_settings, writes_setting,
+};
+use crate::plain_uploads::uploads;
+use crate::{AbstractDevice, Announcement, Counters, Mark, Reply, Request, Sizes};
 use arrayvec::ArrayVec;
 
 /// A change of what is lost at a start.
@@ -95,4 +104,68 @@ pub(crate) fn preceded<'a>(step: PlainStep<'a>, response: PlainResponse<'a>) -> 
     let mut all = steps;
     all.insert(0, step);
     PlainResponse { reply, steps: all }
+}
+
+/// The statistics of the device, by the one name that they have.
+fn counted<'a>(counters: &Counters, name: &str) -> Reply<'a>
+    ensures { said_of result ≡ stat_group_reply counters.now name.now }
+{
+    if name != "smp" {
+        return Reply::GroupError {
+            group: 2,
+            number: 2,
+        };
+    }
+    Reply::StatGroup {
+        handled: counters.handled,
+        dropped: counters.dropped,
+        errors: counters.errors,
+    }
+}
+
+/// What the device does at a request: the response of the definition, worked out in memory.
+pub fn does<'a>(
+    sizes: &Sizes,
+    device: &'a AbstractDevice,
+    request: &Request<'a>,
+) -> PlainResponse<'a>
+    requires unit { 0 < sizes.now.unit }
+    requires sound { IsSound device.now }
+    ensures { response_of result ≡ does sizes.now device.now (meant_of request.now) }
+{
+    let running = device.running.as_slice();
+    let files = device.files.as_slice();
+    match request {
+        Request::Echo(text) => replied(Reply::Echo(text)),
+        Request::Reset => replied(Reply::Empty),
+        Request::Parameters => replied(Reply::Parameters),
+        Request::StatGroup(name) => replied(counted(&device.counters, name)),
+        Request::StatList => replied(Reply::StatList),
+        Request::ImageList => lists(device),
+        Request::ImageSet { hash, confirm } => sets_image(device, *hash, *confirm),
+        Request::Upload(part) => uploads(sizes, device, part),
+        Request::Erase { slot } => erases(device, *slot),
+        Request::SettingRead { name, max_size } => reads_setting(running, name, *max_size),
+        Request::SettingWrite { name, val } => writes_setting(running, name, val),
+        Request::SettingDelete { name } => deletes_setting(running, name),
+        Request::Commit => replied(Reply::Empty),
+        Request::Load => loads_settings(),
+        Request::Save => saves_settings(),
+        Request::FileRead { name, off } => reads_file(files, *off, name),
+        Request::FileWrite {
+            name,
+            off,
+            len,
+            bytes,
+        } => writes_file(files, *off, bytes, *len, name),
+        Request::FileStatus { name } => tells_length(files, name),
+        Request::FileHash {
+            name,
+            kind,
+            off,
+            len,
+        } => hashes_file(files, name, *kind, *off, *len),
+        Request::FileTypes => replied(Reply::FileTypes),
+        Request::FileClose => replied(Reply::Empty),
+    }
 }

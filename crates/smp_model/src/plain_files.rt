@@ -20,10 +20,15 @@ const FILES: u16 = 8;
 
 /// Its errors.
 const NAME_LENGTH: u32 = 2;
+
 const NO_SUCH_FILE: u32 = 3;
+
 const PAST_THE_END: u32 = 12;
+
 const NO_SUCH_HASH: u32 = 13;
+
 const NO_FREE_FILE: u32 = 64;
+
 const TOO_LONG: u32 = 65;
 
 /// The error of the protocol for an invalid value.
@@ -73,7 +78,11 @@ fn length_at(off: u32, file: &StoredFile) -> Option<u32>
     requires { length file.now.held ≤ file.now.announced }
     ensures { result ≡ length_at off file.now }
 {
-    if off == 0 { Some(held_length(file)) } else { None }
+    if off == 0 {
+        Some(held_length(file))
+    } else {
+        None
+    }
 }
 
 fn held_length(file: &StoredFile) -> u32
@@ -144,7 +153,12 @@ fn is_sha256(kind: Option<&str>) -> bool
     }
 }
 
-fn hashes_held<'a>(kind: Option<&str>, off: u32, len: Option<u32>, file: &StoredFile) -> PlainResponse<'a>
+fn hashes_held<'a>(
+    kind: Option<&str>,
+    off: u32,
+    len: Option<u32>,
+    file: &StoredFile,
+) -> PlainResponse<'a>
     requires { length file.now.held ≤ file.now.announced }
     ensures { response_of result ≡ hashes_held (option_map (λ k. k.now) kind.entry) off len file.now }
 {
@@ -189,7 +203,12 @@ fn is_no_free_file(files: &[StoredFile], name: &str) -> bool
     file_of(files, name).is_none() && 8 <= files.len()
 }
 
-fn begins_file<'a>(files: &[StoredFile], name: &'a str, part: &'a [u8], len: Option<u32>) -> PlainResponse<'a>
+fn begins_file<'a>(
+    files: &[StoredFile],
+    name: &'a str,
+    part: &'a [u8],
+    len: Option<u32>,
+) -> PlainResponse<'a>
     requires { All (λ f. length f.held ≤ f.announced) files.now }
     ensures { response_of result ≡ begins_file files.now name.now part.now len }
 {
@@ -225,7 +244,12 @@ fn begun<'a>(name: &'a str, len: u32, part: &'a [u8]) -> PlainResponse<'a>
     responded(reply, PlainStep::Run(change))
 }
 
-fn continues_file<'a>(off: u32, name: &'a str, part: &'a [u8], file: &StoredFile) -> PlainResponse<'a>
+fn continues_file<'a>(
+    off: u32,
+    name: &'a str,
+    part: &'a [u8],
+    file: &StoredFile,
+) -> PlainResponse<'a>
     requires sound { length file.now.held ≤ file.now.announced }
     requires named { file.now.name ≡ name.now }
     ensures { response_of result ≡ continues_file off part.now file.now }

@@ -10,7 +10,9 @@ use crate::{ImageFault, ImageHeader, ImageInfo, Version};
 
 /// The magic of an image, that of its protected TLVs, and that of the others.
 const IMAGE_MAGIC: u32 = 0x96f3b83d;
+
 const PROTECTED_MAGIC: u16 = 0x6908;
+
 const TLV_MAGIC: u16 = 0x6907;
 
 /// The flags of an encrypted image.
@@ -144,11 +146,7 @@ fn has_protected(size: u16, bytes: &[u8]) -> bool
 }
 
 /// What is known by the hashes of an image.
-fn info_of(
-    header: &ImageHeader,
-    size: u16,
-    found: FoundHash,
-) -> Result<ImageInfo, ImageFault>
+fn info_of(header: &ImageHeader, size: u16, found: FoundHash) -> Result<ImageInfo, ImageFault>
     requires { covered_of header.now + size < 2 ^ 32 }
     ensures { result ≡ info_of header.now size (hash_of found) }
 {

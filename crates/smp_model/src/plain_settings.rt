@@ -15,8 +15,11 @@ const SETTINGS: u16 = 3;
 
 /// Its errors.
 const NAME_LENGTH: u32 = 2;
+
 const NO_SUCH_SETTING: u32 = 3;
+
 const VALUE_LENGTH: u32 = 64;
+
 const FULL: u32 = 65;
 
 /// The bytes `a` come before the bytes `b`.
@@ -75,7 +78,9 @@ fn added(size: usize, setting: &Setting, is_there: bool) -> usize
     if is_there {
         let name = setting.name.as_slice().len();
         let val = setting.val.as_slice().len();
-        size.saturating_add(2).saturating_add(name).saturating_add(val)
+        size.saturating_add(2)
+            .saturating_add(name)
+            .saturating_add(val)
     } else {
         size
     }
@@ -115,7 +120,11 @@ fn refused_setting<'a>(number: u32) -> PlainResponse<'a>
     refused(SETTINGS, number)
 }
 
-pub(crate) fn reads_setting<'a>(running: &'a [Setting], name: &str, size: Option<u32>) -> PlainResponse<'a>
+pub(crate) fn reads_setting<'a>(
+    running: &'a [Setting],
+    name: &str,
+    size: Option<u32>,
+) -> PlainResponse<'a>
     ensures { response_of result ≡ reads_setting running.now name.now size }
 {
     if !is_name(name) {
@@ -127,7 +136,11 @@ pub(crate) fn reads_setting<'a>(running: &'a [Setting], name: &str, size: Option
     }
 }
 
-pub(crate) fn writes_setting<'a>(running: &[Setting], name: &'a str, val: &'a [u8]) -> PlainResponse<'a>
+pub(crate) fn writes_setting<'a>(
+    running: &[Setting],
+    name: &'a str,
+    val: &'a [u8],
+) -> PlainResponse<'a>
     ensures { response_of result ≡ writes_setting running.now name.now val.now }
 {
     if !is_name(name) {

@@ -20,12 +20,19 @@ const IMAGES: u16 = 1;
 
 /// Its errors.
 pub(crate) const NO_FREE_SLOT: u32 = 9;
+
 pub(crate) const INVALID_SLOT: u32 = 14;
+
 pub(crate) const INVALID_DIGEST: u32 = 24;
+
 const NO_LENGTH: u32 = 21;
+
 const INVALID_HEADER: u32 = 22;
+
 const WRONG_MAGIC: u32 = 23;
+
 const TOO_LARGE: u32 = 30;
+
 const PAST_THE_END: u32 = 31;
 
 /// A device that has settled, with the upload that settling left.

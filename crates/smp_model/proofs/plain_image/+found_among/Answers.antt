@@ -16,10 +16,10 @@ returns-then-bytes-size t c = found_past c.args.bytes.now (grind (arith, common_
 pub returns-in-None : goal.returns-in-None
 returns-in-None t c =
     found_next c.args.bytes.now (number_16 c.args.bytes.now 0) c.number_16-size.result c.split_at-2.result.0.now c.split_at-2.result.1.now None refl (sym c.number_16-size.ensures) (omega arith)
-      (cc) (cc) c.in-None.ensures
+    (cc) (cc) c.in-None.ensures
 
 pub returns-in-Some : goal.returns-in-Some
 returns-in-Some t c =
     ap Some c.found_with.ensures
     ∙ found_next c.args.bytes.now c.number_16.result c.number_16-size.result c.split_at-2.result.0.now c.split_at-2.result.1.now (Some c.in-Some.others) (sym c.number_16.ensures) (sym c.number_16-size.ensures) (omega arith)
-      (cc) (cc) c.in-Some.ensures
+    (cc) (cc) c.in-Some.ensures
