@@ -1,6 +1,7 @@
 -- What the plain program's values stand for, and what it asks of a device.
-use Rattle.std.specs.Prelude.{ℕ, ◌+◌, ◌≤◌, ◌<◌, ◌^◌, ◌==◌, List, [], ◌∷◌, ◌++◌, length, map as each, option_map, Option, Some, None, IfSome, if◌then◌else◌}
+use Rattle.std.specs.Prelude.{ℕ, ◌+◌, ◌≤◌, ◌<◌, ◌^◌, ◌==◌, List, [], ◌∷◌, ◌++◌, length, Bool, true, not, map as each, option_map, Option, Some, None, IfSome, if◌then◌else◌}
 use Rattle.std.specs.List.{All}
+use Rattle.std.specs.Str.{bytes_eq}
 use Rattle.smp_model.specs.declared.device.AbstractDevice.{AbstractDevice}
 use Rattle.smp_model.specs.declared.setting.Setting.{Setting}
 use Rattle.smp_model.specs.declared.plain.PlainChange.{PlainChange}
@@ -10,6 +11,8 @@ use Rattle.smp_model.specs.declared.plain.PlainStep.TheVariants as steps
 use Rattle.smp_model.specs.declared.plain.PlainResponse.{PlainResponse}
 use Rattle.smp_model.specs.declared.plain_image.FoundHash.{FoundHash}
 use Rattle.smp_model.specs.declared.plain_image.FoundHash.TheVariants as founds
+use Rattle.smp_model.specs.declared.plain_steps.Kept.{Kept}
+use Rattle.smp_model.specs.declared.plain_steps.Kept.TheVariants as kepts
 use Rattle.smp_model.specs.declared.plain_uploads.Settled.{Settled}
 use Rattle.smp_model.specs.Image.{Tlv, hash_type}
 use Rattle.smp_model.specs.Said.{said_of}
@@ -79,3 +82,10 @@ settled_of s = with_upload (option_map (λ u. u.now) s.upload) s.device.now
 -- the response of a settled device, behind the steps of settling
 abbrev pub behind_settling : AbstractDevice → Response → Response
 behind_settling d response = responds response.reply (settle_steps d ++ response.steps)
+
+-- whether a thing of this name is kept
+abbrev pub is_kept : Kept → List ℕ → Bool
+is_kept kepts.All own = true
+is_kept (kepts.Before name) own = comes_before own name.now
+is_kept (kepts.Behind name) own = comes_before name.now own
+is_kept (kepts.Others name) own = not (bytes_eq own name.now)

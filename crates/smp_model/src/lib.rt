@@ -20,6 +20,7 @@ mod plain_files;
 mod plain_image;
 mod plain_images;
 mod plain_settings;
+mod plain_steps;
 mod plain_uploads;
 mod reply;
 mod request;

@@ -298,7 +298,7 @@ pub(crate) fn is_whole(upload: &Upload) -> bool
     is_complete(upload) && has_digest
 }
 
-fn is_spoiled(upload: &Option<Upload>) -> bool
+pub(crate) fn is_spoiled(upload: &Option<Upload>) -> bool
     ensures { result ≡ is_spoiled upload.now }
 {
     match upload {
