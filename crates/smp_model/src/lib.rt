@@ -31,6 +31,7 @@ pub use device::{AbstractDevice, Counters, Side, Sizes, StoredFile, StoredFiles,
 pub use image::{ImageFault, ImageHeader, ImageInfo, make_image};
 pub use packet::set_length;
 pub use plain::{PlainChange, PlainResponse, PlainStep, does};
+pub use plain_steps::{after, start};
 pub use reply::{Reply, SlotEntry, Version};
 pub use request::{Request, UploadPart};
 pub use setting::{Pairs, Setting};

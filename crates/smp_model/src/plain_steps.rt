@@ -5,7 +5,7 @@ ghost use Rattle.std.specs.Prelude.{◌≡◌, [], ◌∷◌, ◌++◌, filter, 
 ghost use Rattle.smp_model.specs.Said.{said_of, is_error};
 ghost use Rattle.smp_model.specs.Settings.{setting, written_setting, deleted_setting};
 ghost use Rattle.smp_model.specs.Files.{stored_file, lengthened, file_of};
-ghost use Rattle.smp_model.specs.Steps.{changed, appended, with_upload, apply, applied, start, counted};
+ghost use Rattle.smp_model.specs.Steps.{changed, appended, chosen, with_upload, MarkPending, Confirm, apply, applied, settle, start, counted};
 ghost use Rattle.smp_model.specs.Response.{after};
 ghost use Rattle.smp_model.specs.Plain.{change_of, step_of, response_of, is_kept};
 
@@ -13,7 +13,7 @@ use crate::plain::{PlainChange, PlainResponse, PlainStep};
 use crate::plain_settings::precedes;
 use crate::plain_uploads::is_spoiled;
 use crate::{
-    AbstractDevice, Announcement, Counters, Pairs, Reply, Setting, Side, StoredFile, StoredFiles,
+    AbstractDevice, Announcement, Counters, Mark, Pairs, Reply, Setting, Side, StoredFile, StoredFiles,
     Upload,
 };
 use smp_edge::Octets;
@@ -267,5 +267,220 @@ fn changed(
             let all = lengthened(alloc, files, name, part)?;
             Ok(with_files(device, all))
         }
+    }
+}
+
+fn with_upload(device: AbstractDevice, upload: Option<Upload>) -> AbstractDevice
+    ensures { result ≡ with_upload upload device }
+{
+    let mut changed = device;
+    changed.side.upload = upload;
+    changed
+}
+
+fn with_pending(device: AbstractDevice, mark: Mark) -> AbstractDevice
+    ensures { result ≡ apply (MarkPending mark) device }
+{
+    let mut changed = device;
+    changed.side.pending = Some(mark);
+    changed
+}
+
+fn with_confirmed(device: AbstractDevice) -> AbstractDevice
+    ensures { result ≡ apply Confirm device }
+{
+    let mut changed = device;
+    changed.side.confirmed = true;
+    changed
+}
+
+fn with_saved(device: AbstractDevice, saved: Pairs) -> AbstractDevice
+    ensures { result ≡ record device { saved = saved } }
+{
+    AbstractDevice { saved, ..device }
+}
+
+fn chosen(alloc: Global, announcement: Announcement) -> Result<Upload, AllocError>
+    ensures { IfOk result (λ u. u ≡ chosen announcement) }
+{
+    let accepted = Octets::from_slice(alloc, b"")?;
+    Ok(Upload {
+        announcement,
+        accepted,
+    })
+}
+
+fn appended(
+    alloc: Global,
+    upload: &Option<Upload>,
+    bytes: &[u8],
+) -> Result<Option<Upload>, AllocError>
+    ensures { IfOk result (λ u. u ≡ appended upload.now bytes.now) }
+{
+    let Some(upload) = upload else {
+        return Ok(None);
+    };
+    let accepted = joined(alloc, upload.accepted.as_slice(), bytes)?;
+    Ok(Some(Upload {
+        announcement: upload.announcement,
+        accepted,
+    }))
+}
+
+fn apply(
+    alloc: Global,
+    device: AbstractDevice,
+    step: &PlainStep<'_>,
+) -> Result<AbstractDevice, AllocError>
+    ensures { IfOk result (λ e. e ≡ apply (step_of step.now) device) }
+{
+    match step {
+        PlainStep::Choose(announcement) => {
+            let upload = chosen(alloc, *announcement)?;
+            Ok(with_upload(device, Some(upload)))
+        }
+        PlainStep::Append(bytes) => {
+            let upload = appended(alloc, &device.side.upload, bytes)?;
+            Ok(with_upload(device, upload))
+        }
+        PlainStep::Drop => Ok(with_upload(device, None)),
+        PlainStep::MarkPending(mark) => Ok(with_pending(device, *mark)),
+        PlainStep::Confirm => Ok(with_confirmed(device)),
+        PlainStep::Save => {
+            let saved = copied_settings(alloc, device.running.as_slice())?;
+            Ok(with_saved(device, saved))
+        }
+        PlainStep::Run(change) => changed(alloc, device, change),
+    }
+}
+
+/// The device after these steps, from the first on.
+fn applied(
+    alloc: Global,
+    device: AbstractDevice,
+    steps: &[PlainStep<'_>],
+) -> Result<AbstractDevice, AllocError>
+    ensures { IfOk result (λ e. e ≡ applied (each step_of steps.now) device) }
+{
+    match steps.split_first() {
+        None => Ok(device),
+        Some((step, rest)) => {
+            let next = apply(alloc, device, step)?;
+            applied(alloc, next, rest)
+        }
+    }
+}
+
+fn is_error(reply: &Reply<'_>) -> bool
+    ensures { result ≡ is_error (said_of reply.now) }
+{
+    match reply {
+        Reply::SmpError(_) => true,
+        Reply::GroupError { .. } => true,
+        _ => false,
+    }
+}
+
+fn counted(device: AbstractDevice, reply: &Reply<'_>) -> AbstractDevice
+    ensures { result ≡ counted (said_of reply.now) device }
+{
+    let Counters {
+        handled,
+        dropped,
+        errors,
+    } = device.counters;
+    let errors = if is_error(reply) {
+        errors.saturating_add(1)
+    } else {
+        errors
+    };
+    let counters = Counters {
+        handled: handled.saturating_add(1),
+        dropped,
+        errors,
+    };
+    AbstractDevice { counters, ..device }
+}
+
+fn copied_upload(alloc: Global, upload: &Option<Upload>) -> Result<Option<Upload>, AllocError>
+    ensures { IfOk result (λ u. u ≡ upload.now) }
+{
+    let Some(upload) = upload else {
+        return Ok(None);
+    };
+    let accepted = copied(alloc, &upload.accepted)?;
+    Ok(Some(Upload {
+        announcement: upload.announcement,
+        accepted,
+    }))
+}
+
+fn copied_side(alloc: Global, side: &Side) -> Result<Side, AllocError>
+    ensures { IfOk result (λ s. s ≡ side.now) }
+{
+    let active = copied(alloc, &side.active)?;
+    let upload = copied_upload(alloc, &side.upload)?;
+    Ok(Side {
+        active,
+        confirmed: side.confirmed,
+        upload,
+        pending: side.pending,
+    })
+}
+
+fn copied_device(alloc: Global, device: &AbstractDevice) -> Result<AbstractDevice, AllocError>
+    ensures { IfOk result (λ d. d ≡ device.now) }
+{
+    let side = copied_side(alloc, &device.side)?;
+    let saved = copied_settings(alloc, device.saved.as_slice())?;
+    let running = copied_settings(alloc, device.running.as_slice())?;
+    let files = copied_files(alloc, device.files.as_slice())?;
+    Ok(AbstractDevice {
+        side,
+        saved,
+        running,
+        files,
+        counters: device.counters,
+    })
+}
+
+/// The device after a request that was answered so: its steps are done, and its reply is counted. It fails only for want
+/// of memory.
+pub fn after(
+    alloc: Global,
+    device: &AbstractDevice,
+    response: &PlainResponse<'_>,
+) -> Result<AbstractDevice, AllocError>
+    ensures { IfOk result (λ e. e ≡ after (response_of response.now) device.now) }
+{
+    let copy = copied_device(alloc, device)?;
+    let done = applied(alloc, copy, response.steps.as_slice())?;
+    Ok(counted(done, &response.reply))
+}
+
+/// The device after a start: settled, with the saved settings running, no files, and the counters at 0. It fails only for
+/// want of memory.
+pub fn start(alloc: Global, device: &AbstractDevice) -> Result<AbstractDevice, AllocError>
+    ensures { IfOk result (λ e. e ≡ start device.now) }
+{
+    let copy = copied_device(alloc, device)?;
+    let now = if_spoiled_dropped(copy);
+    let running = copied_settings(alloc, now.saved.as_slice())?;
+    Ok(AbstractDevice {
+        running,
+        files: StoredFiles::new(alloc),
+        counters: Counters::default(),
+        ..now
+    })
+}
+
+fn if_spoiled_dropped(device: AbstractDevice) -> AbstractDevice
+    ensures settles { result ≡ settle device }
+    ensures saved { result.saved ≡ device.saved }
+{
+    if is_spoiled(&device.side.upload) {
+        with_upload(device, None)
+    } else {
+        device
     }
 }
