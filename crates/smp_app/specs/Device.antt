@@ -7,10 +7,7 @@ use Rattle.smp_model.specs.Meant.{Meant, reset}
 use Rattle.smp_model.specs.Meaning.{meaning, not_supported}
 use Rattle.smp_model.specs.Said.{Said, smp_error, is_error, reply_bytes}
 use Rattle.smp_model.specs.Counters.{Counters, after_reply, after_drop, os_reply}
-
--- A read or a write. The other operations are replies, or none at all.
-abbrev pub is_request : Message → Bool
-is_request m = m.op == 0 || m.op == 2
+pub use Rattle.smp_model.specs.Handled.{is_request}
 
 -- The reply to a request, with the counters before it. What is not built yet is not supported: a reset, and the groups
 -- of images, settings and files.

@@ -5,3 +5,14 @@ pub mod PlainImage
 pub mod Copies
 pub mod Tlvs
 pub mod Made
+mod Cases
+mod Volatile
+mod Pending
+mod Marks
+mod Offsets
+mod ImageSteps
+mod Saves
+mod Refusals
+mod StoredForms
+mod NamedThings
+mod Consistency

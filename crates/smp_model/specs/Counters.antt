@@ -1,7 +1,7 @@
 -- What the device counts, and what its groups OS and statistics answer.
 use Rattle.std.specs.Prelude.{ℕ, ◌+◌, List, Bool, Option, Some, None, min, codes, if◌then◌else◌}
 use Rattle.std.specs.Str.{bytes_eq}
-use Rattle.smp_model.specs.declared.device.Counters.{Counters}
+pub use Rattle.smp_model.specs.declared.device.Counters.{Counters}
 use Rattle.smp_model.specs.Meant as meant
 use Rattle.smp_model.specs.Meant.{Meant}
 use Rattle.smp_model.specs.Said as said
@@ -20,9 +20,16 @@ after_reply error c = record c { handled = one_more c.handled; errors = if error
 abbrev pub after_drop : Counters → Counters
 after_drop c = record c { dropped = one_more c.dropped }
 
+-- the error of a name that is no group of statistics
+abbrev pub statistics_group : ℕ
+statistics_group = 2
+
+abbrev pub no_such_statistics : ℕ
+no_such_statistics = 2
+
 -- the one group of statistics
 abbrev pub stat_group_reply : Counters → List ℕ → Said
-stat_group_reply c name = if bytes_eq name (codes "smp") then said.stat_group c.handled c.dropped c.errors else said.group_error 2 2
+stat_group_reply c name = if bytes_eq name (codes "smp") then said.stat_group c.handled c.dropped c.errors else said.group_error statistics_group no_such_statistics
 
 -- the reply of the groups OS and statistics, with the counters before the request; none of another group
 abbrev pub os_reply : Counters → Meant → Option Said

@@ -1,4 +1,5 @@
--- What the device answers in group 8, files.
+-- What the device answers in group 8, files. The requests are those of Zephyr's file system group; the order of refusals and
+-- their numbers are this project's own. Parts of a file are answered with the offset that is wanted, as those of an upload.
 use Rattle.std.specs.Prelude.{ℕ, ◌+◌, List, [], ◌∷◌, length, take, drop, Bool, true, not, ◌&&◌, ◌==◌, nat_lt, nat_le, Option, Some, None, is_none, codes, if◌then◌else◌}
 use Rattle.std.specs.Str.{bytes_eq}
 use Rattle.sha2.specs.Sha256.{sha256}

@@ -19,7 +19,7 @@ use Rattle.smp_model.specs.Steps.{Step, Choose, Append, Drop, MarkPending, Confi
 use Rattle.smp_model.specs.Response.{Response, responds, replies, refuses, settling}
 use Rattle.smp_model.specs.Uploads.{differs, kept, uploaded_image, is_resumed_by}
 
--- the errors of the group
+-- the errors of a request; those of the flash are given by the layers that have one
 abbrev pub hash_not_found : ℕ
 hash_not_found = 8
 
@@ -138,7 +138,7 @@ uploads sizes d image len off sha part =
 
 -- The list of images.
 
--- what a list says of an active slot without a good image; a formatted flash has one
+-- what a list says of a slot 0 that does not begin with a good image; every device begins with one that does
 abbrev pub no_image : ImageInfo
 no_image = record {
   version = record { major = 0; minor = 0; revision = 0; build = 0 };
@@ -215,8 +215,8 @@ abbrev pub has_hash : List ℕ → Option ImageInfo → Bool
 has_hash hash None = false
 has_hash hash (Some i) = bytes_eq i.hash hash
 
--- the image that runs is meant
-abbrev pub confirms : Bool → Bool → AbstractDevice → Response
+-- the image that runs is meant: whether it is to be confirmed, and whether it is confirmed already
+abbrev pub confirms : (confirm confirmed : Bool) → AbstractDevice → Response
 confirms true true d = lists_after [] d
 confirms true false d = lists_after (Confirm ∷ []) d
 confirms false confirmed d = refuses_image active_image

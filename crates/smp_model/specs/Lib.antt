@@ -18,3 +18,7 @@ pub mod SettingsGroup
 pub mod FileGroup
 pub mod Does
 pub mod Plain
+pub mod Handled
+pub mod Acknowledged
+pub mod Laws
+pub mod Consistent

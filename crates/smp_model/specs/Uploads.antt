@@ -1,4 +1,5 @@
--- Uploads: which bytes are kept, and when an upload is what was announced.
+-- Uploads: which bytes are kept, and when an upload is what was announced. The rule that whole write units are kept is this
+-- project's own.
 use Rattle.std.specs.Prelude.{◌≡◌, ℕ, ◌+◌, ◌*◌, ◌/◌, List, length, take, Bool, false, not, ◌&&◌, ◌==◌, Option, Some, None, IfSome, IsSome, if◌then◌else◌}
 use Rattle.std.specs.Str.{bytes_eq}
 use Rattle.sha2.specs.Sha256.{sha256}

@@ -14,6 +14,7 @@
 
 mod device;
 mod image;
+mod laws;
 mod packet;
 mod plain;
 mod plain_files;
@@ -29,6 +30,12 @@ mod upload;
 
 pub use device::{AbstractDevice, Counters, Side, Sizes, StoredFile, StoredFiles, Upload};
 pub use image::{ImageFault, ImageHeader, ImageInfo, make_image};
+pub use laws::{
+    a_pending_slot_is_good, a_pending_slot_stays, acknowledged_bytes_are_held,
+    answered_offsets_are_held, counters_are_answered, devices_stay_consistent, marks_are_due,
+    only_a_save_saves, refusals_change_nothing, settling_is_done_once,
+    stored_settings_are_read_back, the_next_part_is_kept,
+};
 pub use packet::set_length;
 pub use plain::{PlainChange, PlainResponse, PlainStep, does};
 pub use plain_steps::{after, start};
