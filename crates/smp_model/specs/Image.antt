@@ -204,6 +204,13 @@ hashed h size (Some ts) = info_of h size (only_hash (filter is_hash ts))
 abbrev pub with_tlvs : ImageHeader → List ℕ → Result ImageInfo ImageFault
 with_tlvs h b = hashed h (number_16 b 2) (area_of tlv_magic b)
 
+-- what is known by a header that passed its tests
+abbrev pub with_areas : ImageHeader → List ℕ → Result ImageInfo ImageFault
+with_areas h b = test
+    (has_protected h.protected_size (drop (h.header_size + h.image_size) b))
+    faults.Protected
+    (with_tlvs h (drop (covered_of h) b))
+
 -- what is known by the header and all bytes
 abbrev pub with_header : ImageHeader → List ℕ → Result ImageInfo ImageFault
 with_header h b =
@@ -211,8 +218,7 @@ with_header h b =
     (test (nat_le 32 h.header_size) faults.HeaderSize
     (test (bit_and h.flags encrypted_flags == 0) faults.Encrypted
     (test (nat_le (covered_of h + 4) (length b)) faults.Bounds
-    (test (has_protected h.protected_size (drop (h.header_size + h.image_size) b)) faults.Protected
-    (with_tlvs h (drop (covered_of h) b))))))
+    (with_areas h b))))
 
 -- what is known of the image at the front of the bytes, or the first fault
 unfoldable pub image_of : List ℕ → Result ImageInfo ImageFault
@@ -220,7 +226,7 @@ image_of b = test (nat_le 32 (length b)) faults.Short (with_header (header_of (t
 
 abbrev pub if_hashed : List ℕ → Result ImageInfo ImageFault → Option ImageInfo
 if_hashed b (Ok i) = if bytes_eq i.hash (sha256 (take i.covered b)) then Some i else None
-if_hashed b (Err fault) = None
+if_hashed b (Err _) = None
 
 -- the image whose hash is the SHA-256 of its covered bytes
 unfoldable pub good_image : List ℕ → Option ImageInfo

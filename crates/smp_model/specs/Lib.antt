@@ -17,6 +17,7 @@ pub mod ImageGroup
 pub mod SettingsGroup
 pub mod FileGroup
 pub mod Does
+pub mod Plain
 pub mod Handled
 pub mod Acknowledged
 pub mod Laws

@@ -9,7 +9,13 @@
 //!
 //! Numbers are little-endian. The layout is that of MCUboot's design document, section "Image format".
 
+ghost use Rattle.std.specs.Prelude.{◌≡◌, ◌+◌, ◌<◌, ◌^◌, length, IfOk};
+ghost use Rattle.smp_model.specs.Image.{header_bytes as header_octets, made_covered, made_image};
+
 use crate::reply::Version;
+use sha2::{Digest, Sha256};
+use smp_edge::Octets;
+use std::alloc::{AllocError, Global};
 
 /// The header of an image, as its first 32 bytes state it.
 #[derive(Clone, Copy, Debug, PartialEq, Eq)]
@@ -70,4 +76,66 @@ pub enum ImageFault {
     Fault,
     /// What holds the bytes is off.
     Off,
+}
+
+/// The bytes of an image's TLVs before its hash: magic 0x6907, 40 bytes in all, a TLV of type 0x10 with 32 bytes.
+const HASH_HEAD: [u8; 8] = [0x07, 0x69, 0x28, 0x00, 0x10, 0x00, 0x20, 0x00];
+
+/// The 32 bytes of a header.
+fn header_bytes(header: &ImageHeader) -> [u8; 32]
+    ensures { result ≡ header_octets header.now }
+{
+    let [m0, m1, m2, m3] = header.magic.to_le_bytes();
+    let [l0, l1, l2, l3] = header.load.to_le_bytes();
+    let [h0, h1] = header.header_size.to_le_bytes();
+    let [p0, p1] = header.protected_size.to_le_bytes();
+    let [s0, s1, s2, s3] = header.image_size.to_le_bytes();
+    let [f0, f1, f2, f3] = header.flags.to_le_bytes();
+    let Version {
+        major,
+        minor,
+        revision,
+        build,
+    } = header.version;
+    let [r0, r1] = revision.to_le_bytes();
+    let [b0, b1, b2, b3] = build.to_le_bytes();
+    let [e0, e1, e2, e3] = header.padding.to_le_bytes();
+    [
+        m0, m1, m2, m3, l0, l1, l2, l3, h0, h1, p0, p1, s0, s1, s2, s3, f0, f1, f2, f3, major,
+        minor, r0, r1, b0, b1, b2, b3, e0, e1, e2, e3,
+    ]
+}
+
+/// The header and the payload of the image that `make_image` writes, with room for its TLVs.
+fn covered_part(alloc: Global, payload: &[u8], version: Version) -> Result<Vec<u8>, AllocError>
+    requires { length payload.now + 72 < 2 ^ 32 }
+    ensures { IfOk result (λ bytes. bytes.items ≡ made_covered payload.now version) }
+{
+    let header = ImageHeader {
+        magic: 0x96f3_b83d,
+        load: 0,
+        header_size: 32,
+        protected_size: 0,
+        image_size: payload.len() as u32,
+        flags: 0,
+        version,
+        padding: 0,
+    };
+    let mut bytes = Vec::with_capacity(alloc, payload.len() + 72)?;
+    bytes.extend_from_slice(&header_bytes(&header))?;
+    bytes.extend_from_slice(payload)?;
+    Ok(bytes)
+}
+
+/// Writes the image of a payload: a header of 32 bytes with flags 0, the payload, and TLVs that have the hash alone. It
+/// fails only for want of memory.
+pub fn make_image(alloc: Global, payload: &[u8], version: Version) -> Result<Octets, AllocError>
+    requires { length payload.now + 72 < 2 ^ 32 }
+    ensures made { IfOk result (λ image. image ≡ made_image payload.now version) }
+{
+    let mut bytes = covered_part(alloc, payload, version)?;
+    let hash = Sha256::digest(bytes.as_slice());
+    bytes.extend_from_slice(&HASH_HEAD)?;
+    bytes.extend_from_slice(&hash)?;
+    Ok(Octets::from_vec(bytes))
 }

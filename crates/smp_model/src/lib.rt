@@ -16,13 +16,20 @@ mod device;
 mod image;
 mod laws;
 mod packet;
+mod plain;
+mod plain_files;
+mod plain_image;
+mod plain_images;
+mod plain_settings;
+mod plain_steps;
+mod plain_uploads;
 mod reply;
 mod request;
 mod setting;
 mod upload;
 
 pub use device::{AbstractDevice, Counters, Side, Sizes, StoredFile, StoredFiles, Upload};
-pub use image::{ImageFault, ImageHeader, ImageInfo};
+pub use image::{ImageFault, ImageHeader, ImageInfo, make_image};
 pub use laws::{
     a_pending_slot_is_good, a_pending_slot_stays, acknowledged_bytes_are_held,
     answered_offsets_are_held, counters_are_answered, devices_stay_consistent, marks_are_due,
@@ -30,6 +37,8 @@ pub use laws::{
     stored_settings_are_read_back, the_next_part_is_kept,
 };
 pub use packet::set_length;
+pub use plain::{PlainChange, PlainResponse, PlainStep, does};
+pub use plain_steps::{after, start};
 pub use reply::{Reply, SlotEntry, Version};
 pub use request::{Request, UploadPart};
 pub use setting::{Pairs, Setting};

@@ -1,0 +1,34 @@
+use Rattle.std.proofs.Common.{sym, ◌∙◌, arith}
+use Rattle.smp_flash.proofs.Telling.{IfSome-same}
+use Rattle.smp_tlv.proofs.Images.{answers_short, tested, answers_fault, answers_areas, answers_protected, answers_tlvs, IfOk-map}
+use Rattle.smp_tlv.proofs.image.find_image.Goals as goal
+
+pub returns-then-size-lt32-clause-answer : goal.returns-then-size-lt32-clause-answer
+returns-then-size-lt32-clause-answer g c =
+    answers_short (g.B.Bytes.state c.args.b.now).bytes (g.B.Bytes.state c.args.b.now).size (g.met.B.Bytes.sized c.args.b.now) (omega arith)
+
+pub returns-in-Err-clause-answer : goal.returns-in-Err-clause-answer
+returns-in-Err-clause-answer g c =
+    let x = (g.B.Bytes.state c.args.b.now).bytes in
+    let t = tested x c.length-size.result c.in_ok-header.header c.check_header.result (rw c.length-size.ensures (g.met.B.Bytes.sized c.args.b.now)) (omega arith) c.in_ok-header.ensures.header c.check_header.ensures.tests in
+    answers_fault x c.in_ok-header.header c.check_header.result c.in-Err.fault c.in-Err.is t
+
+pub returns-then-not-branch-clause-answer : goal.returns-then-not-branch-clause-answer
+returns-then-not-branch-clause-answer g c =
+    let x = (g.B.Bytes.state c.args.b.now).bytes in
+    let t = tested x c.length-size.result c.in_ok-header.header c.check_header.result (rw c.length-size.ensures (g.met.B.Bytes.sized c.args.b.now)) (omega arith) c.in_ok-header.ensures.header c.check_header.ensures.tests in
+    answers_protected x c.in_ok-header.header c.in_ok-has_protected.field-0 c.if-not-branch.true
+    (answers_areas x c.in_ok-header.header c.check_header.result c.in-Ok.covered c.in-Ok.is t)
+    (IfSome-same _ _ x (sym c.in_ok-header.ensures.looks.held) c.in_ok-has_protected.ensures.there)
+
+pub returns-clause-answer : goal.returns-clause-answer
+returns-clause-answer g c =
+    let x = (g.B.Bytes.state c.args.b.now).bytes in
+    let t = tested x c.length-size.result c.in_ok-header.header c.check_header.result (rw c.length-size.ensures (g.met.B.Bytes.sized c.args.b.now)) (omega arith) c.in_ok-header.ensures.header c.check_header.ensures.tests in
+    let held = c.in_ok-has_protected.ensures.looks.held ∙ c.in_ok-header.ensures.looks.held in
+    IfOk-map c.read_tlvs.result _ _
+    (λ answer tlvs. answers_tlvs x c.in_ok-header.header c.in-Ok.covered c.in_ok-has_protected.field-0 answer c.in-Ok.ensures.covered c.if-not-branch.false
+    (answers_areas x c.in_ok-header.header c.check_header.result c.in-Ok.covered c.in-Ok.is t)
+    (IfSome-same _ _ x (sym c.in_ok-header.ensures.looks.held) c.in_ok-has_protected.ensures.there)
+    (IfSome-same _ _ x (sym held) tlvs))
+    c.read_tlvs.ensures.answer

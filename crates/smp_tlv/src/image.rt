@@ -1,0 +1,65 @@
+// An image from its bytes.
+ghost use Rattle.std.specs.Prelude.{◌≡◌, ◌↔◌, ◌+◌, ◌<◌, ◌≤◌, IfOk, IfErr, IfSome, Err};
+ghost use Rattle.smp_flash.specs.State.{end_of};
+ghost use Rattle.smp_flash.specs.State.End.{Went};
+ghost use Rattle.smp_flash.specs.declared.flash.Operation.TheVariants.{Read};
+ghost use Rattle.smp_model.specs.Image.{image_of};
+ghost use Rattle.smp_tlv.specs.Faults.{IsOfBytes, IsOfReading, image_fault};
+ghost use Rattle.smp_tlv.specs.State.{Looks, image_end};
+
+use crate::area::{has_protected, read_tlvs};
+use crate::bytes::Bytes;
+use crate::header::{check_header, read_header};
+use smp_flash::FlashFault;
+use smp_model::{ImageFault, ImageInfo};
+
+/// The image, or the first fault of its bytes.
+fn find_image<B: Bytes>(b: &mut B) -> Result<Result<ImageInfo, ImageFault>, FlashFault>
+    ensures looks { Looks 131102 (end_of Read result) (B.state b.old) (B.state b.new) }
+    ensures answer { IfOk result (λ answer. IfSome (B.state b.old).bytes (λ held. answer ≡ image_of held)) }
+    ensures kind { IfOk result (λ answer. IfErr answer IsOfBytes) }
+    ensures inside { IfOk result (λ answer. IfOk answer (λ info. (info.covered + 4 ≤ (B.state b.old).size) × (info.end ≤ (B.state b.old).size))) }
+{
+    let size = b.length();
+    if size < 32 {
+        return Ok(Err(ImageFault::Short));
+    }
+    let header = read_header(b)?;
+    let covered = match check_header(&header, size) {
+        Ok(covered) => covered,
+        Err(fault) => return Ok(Err(fault)),
+    };
+    if !has_protected(b, &header, covered)? {
+        return Ok(Err(ImageFault::Protected));
+    }
+    read_tlvs(b, &header, covered)
+}
+
+/// Why the bytes could not be read, as a fault of an image.
+pub fn passed_on(fault: FlashFault) -> ImageFault
+    ensures { result ≡ image_fault fault }
+{
+    match fault {
+        FlashFault::Fault => ImageFault::Fault,
+        FlashFault::Off => ImageFault::Off,
+    }
+}
+
+/// Reads the image that the bytes begin with (MCUboot's design document, "Image format"): its version, its flags, how
+/// many bytes its hash is of, where it ends, and its hash. What stands after its end is not looked at.
+///
+/// A fault is the first one of the bytes, in the order of `ImageFault`, and nothing is read after what shows it. The hash
+/// is not checked: `WrongHash` and `TooLarge` never come. `Fault` and `Off` come as the holder of the bytes gives them,
+/// and nothing is read after them. At most 131102 bytes are read: a header and two areas of TLVs.
+pub fn read_image<B: Bytes>(b: &mut B) -> Result<ImageInfo, ImageFault>
+    ensures looks { Looks 131102 (image_end result) (B.state b.old) (B.state b.new) }
+    ensures image { image_end result ≡ Went → IfSome (B.state b.old).bytes (λ held. result ≡ image_of held) }
+    ensures kind { IfErr result IsOfReading }
+    ensures covered { IfOk result (λ info. info.covered + 4 ≤ (B.state b.old).size) }
+    ensures inside { IfOk result (λ info. info.end ≤ (B.state b.old).size) }
+{
+    match find_image(b) {
+        Ok(answer) => answer,
+        Err(fault) => Err(passed_on(fault)),
+    }
+}

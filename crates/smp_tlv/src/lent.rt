@@ -1,0 +1,54 @@
+// Bytes that are lent.
+ghost use Rattle.std.specs.Prelude.{◌≡◌, ◌+◌, ◌≤◌, length, OnOk, IfSome, Some};
+ghost use Rattle.smp_flash.specs.Area.{area};
+ghost use Rattle.smp_flash.specs.State.{end_of};
+ghost use Rattle.smp_flash.specs.State.End.{Went};
+ghost use Rattle.smp_flash.specs.declared.flash.Operation.TheVariants.{Read};
+ghost use Rattle.smp_tlv.specs.State.{Looks};
+
+use crate::bytes::Bytes;
+use smp_flash::FlashFault;
+
+/// Bytes in memory that are lent. They are always there: no read of them fails.
+#[derive(Clone, Copy, Debug)]
+pub struct Lent<'a> {
+    bytes: &'a [u8],
+    ghost fits: { length bytes.now ≤ 4294967295 },
+}
+
+impl<'a> Lent<'a> {
+    ghost use Rattle.smp_tlv.specs.Lent.{lent_bytes};
+
+    /// The bytes, at most 4294967295 of them.
+    pub fn new(bytes: &'a [u8]) -> Lent<'a>
+        requires { length bytes.now ≤ 4294967295 }
+        ensures { lent_bytes result ≡ bytes.now }
+    {
+        Lent { bytes }
+    }
+}
+
+impl Bytes for Lent<'_> {
+    ghost use Rattle.std.specs.Prelude.{refl};
+    ghost use Rattle.smp_tlv.specs.Lent.{lent_bytes, lent_state};
+
+    ghost state = { lent_state };
+
+    fn length(&self) -> u32 {
+        self.bytes.len() as u32
+    }
+
+    fn read(&mut self, at: u32, into: &mut [u8]) -> Result<(), FlashFault>
+        requires { at + length into.old ≤ (lent_state self.old).size }
+        ensures looks { Looks (length into.old) (end_of Read result) (lent_state self.old) (lent_state self.new) }
+        ensures bytes { OnOk result (IfSome (lent_state self.old).bytes (λ held. into.new ≡ area at (length into.old) held)) }
+        ensures end { end_of Read result ≡ Went }
+        ensures same { self.new ≡ self.old }
+    {
+        let start = at as usize;
+        into.copy_from_slice(&self.bytes[start..start + into.len()]);
+        Ok(())
+    }
+
+    ghost sized = { λ b. refl };
+}
