@@ -7,3 +7,4 @@ pub mod Errors
 pub mod Said
 pub mod Device
 pub mod Image
+pub mod ImageFaults
