@@ -8,7 +8,8 @@ use Rattle.std.proofs.lemmas.List.{take-append-drop, get_or-drop, get_or-take, l
 use Rattle.std.proofs.lemmas.Nat.{from_le_bytes-to_le_bytes_2, from_le_bytes-to_le_bytes_4, le_bytes_4}
 use Rattle.smp_model.specs.declared.image.ImageHeader.{ImageHeader}
 use Rattle.smp_model.specs.Image.{Tlv, AreTlvs, IsArea, IsHeader, tlvs_bytes, area_bytes, tlvs_of, area_of, number_16, number_32, header_bytes, header_of}
-use Rattle.smp_model.proofs.Tlvs.{AreBytes, tlvs_again, tlvs_sound, le_two, is_sixteen, true_le}
+use Rattle.smp_model.specs.ImageFaults.{AreBytes}
+use Rattle.smp_model.proofs.Tlvs.{tlvs_again, tlvs_sound, le_two, is_sixteen, true_le}
 
 if_all : (p q r : Bool) (o : Option (List Tlv)) → p ≡ true → q ≡ true → r ≡ true → (if p && (q && r) then o else None) ≡ o
 if_all p q r o is_p is_q is_r = rw (is_p, is_q, is_r) refl
@@ -20,7 +21,7 @@ pub record All (p q r : Bool) (o : Option (List Tlv)) (ts : List Tlv) : Type 0 w
   pub third : r ≡ true
   pub last : o ≡ Some ts
 
-all_of : (p q r : Bool) (o : Option (List Tlv)) (ts : List Tlv) → (if p && (q && r) then o else None) ≡ Some ts → All p q r o ts
+pub all_of : (p q r : Bool) (o : Option (List Tlv)) (ts : List Tlv) → (if p && (q && r) then o else None) ≡ Some ts → All p q r o ts
 all_of true true true o ts e = record { first = refl; second = refl; third = refl; last = e }
 all_of true true false o ts e = absurd (cc e)
 all_of true false r o ts e = absurd (cc e)

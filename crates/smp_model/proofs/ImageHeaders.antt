@@ -7,7 +7,8 @@ use Rattle.std.proofs.lemmas.Nat.{from_le_bytes-to_le_bytes_2, from_le_bytes-to_
 use Rattle.smp_model.specs.declared.image.ImageHeader.{ImageHeader}
 use Rattle.smp_model.specs.Image.{IsHeader, number_16, number_32, header_bytes, header_of}
 use Rattle.smp_model.specs.ImageFaults.{Begins}
-use Rattle.smp_model.proofs.Tlvs.{AreBytes, le_two, is_sixteen}
+use Rattle.smp_model.specs.ImageFaults.{AreBytes}
+use Rattle.smp_model.proofs.Tlvs.{le_two, is_sixteen}
 use Rattle.smp_model.proofs.ImageAreas.{bytes-take, bytes-drop}
 
 four_bytes : (a b c d : ℕ) → a < 256 → b < 256 → c < 256 → d < 256 → AreBytes (a ∷ b ∷ c ∷ d ∷ [])

@@ -8,7 +8,8 @@ use Rattle.smp_model.specs.declared.image.ImageFault.{ImageFault}
 use Rattle.smp_model.specs.declared.image.ImageFault.TheVariants.{Short, Magic, HeaderSize, Encrypted, Bounds, Protected, Tlvs, NoHash, WrongHash, TooLarge, Fault, Off}
 use Rattle.smp_model.specs.Image.{Tlv, area_bytes, image_magic, encrypted_flags, tlv_magic, area_of, has_protected, number_16, is_hash, only_hash, covered_of, header_of, test, info_of, hashed, with_tlvs, with_areas, with_header, image_of}
 use Rattle.smp_model.specs.ImageFaults.{Begins, HasHeader, HasProtected, HasTlvs, HasHash, IsFirstFault}
-use Rattle.smp_model.proofs.Tlvs.{AreBytes, true_le, false_le}
+use Rattle.smp_model.specs.ImageFaults.{AreBytes}
+use Rattle.smp_model.proofs.Tlvs.{true_le, false_le}
 use Rattle.smp_model.proofs.ImageAreas.{same_number, number_is, le_is}
 use Rattle.smp_model.proofs.ImageHeaders.{begins_again, begins_sound}
 use Rattle.smp_model.proofs.ImageTests.{protected_again, protected_sound, tlvs_there, tlvs_found, hash_there, hash_found}
@@ -94,11 +95,11 @@ reads_known b h ts hash has protected tlvs is_hash_of =
     ∙ ap (info_of h (length (area_bytes tlv_magic ts))) (hash_there ts hash is_hash_of))))
 
 -- A test by its two answers, with what each says.
-bool_cases : (P : Type 0) (t : Bool) → (t ≡ true → P) → (t ≡ false → P) → P
+pub bool_cases : (P : Type 0) (t : Bool) → (t ≡ true → P) → (t ≡ false → P) → P
 bool_cases P true yes_ no_ = yes_ refl
 bool_cases P false yes_ no_ = no_ refl
 
-option_cases : {A : Type 0} (P : Type 0) (o : Option A) → ((a : A) → o ≡ Some a → P) → (o ≡ None → P) → P
+pub option_cases : {A : Type 0} (P : Type 0) (o : Option A) → ((a : A) → o ≡ Some a → P) → (o ≡ None → P) → P
 option_cases P (Some a) some none = some a refl
 option_cases P None some none = none refl
 

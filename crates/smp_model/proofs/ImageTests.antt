@@ -9,7 +9,7 @@ use Rattle.std.proofs.lemmas.Nat.{from_le_bytes-to_le_bytes_2}
 use Rattle.smp_model.specs.declared.image.ImageHeader.{ImageHeader}
 use Rattle.smp_model.specs.Image.{Tlv, IsArea, AreProtected, tlvs_bytes, area_bytes, protected_bytes, protected_magic, tlv_magic, area_of, has_protected, number_16, is_hash, hash_tlv, hash_type, only_hash, covered_of}
 use Rattle.smp_model.specs.ImageFaults.{StandsAt, HasProtected, HasTlvs, HasHash}
-use Rattle.smp_model.proofs.Tlvs.{AreBytes}
+use Rattle.smp_model.specs.ImageFaults.{AreBytes}
 use Rattle.smp_model.proofs.ImageAreas.{HoldsArea, area_again, area_sound, bytes-drop, same_number, number_is}
 
 -- a part at a place is what the rest from there on begins with
@@ -97,7 +97,7 @@ hash_there ts hash has =
 same_tlv : (k k' : ℕ) (v v' : List ℕ) → k ≡ k' → v ≡ v' → ◌≡◌ {A = Tlv} (record { kind = k; value = v }) (record { kind = k'; value = v' })
 same_tlv k k' v v' e f = rw (e, f) refl
 
-only_cases : (fs : List Tlv) (hash : List ℕ) → All (λ t. is_hash t ≡ true) fs → only_hash fs ≡ Some hash → (fs ≡ hash_tlv hash ∷ []) × (length hash ≡ 32)
+pub only_cases : (fs : List Tlv) (hash : List ℕ) → All (λ t. is_hash t ≡ true) fs → only_hash fs ≡ Some hash → (fs ≡ hash_tlv hash ∷ []) × (length hash ≡ 32)
 only_cases [] hash pass e = absurd (cc e)
 only_cases (t ∷ u ∷ us) hash pass e = absurd (cc e)
 only_cases (t ∷ []) hash pass e = by_size (length t.value == 32) refl e

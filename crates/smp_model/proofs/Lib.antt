@@ -6,3 +6,5 @@ pub mod ImageAreas
 pub mod ImageHeaders
 pub mod ImageTests
 pub mod ImageReads
+pub mod ImageParts
+pub mod ImageGood

@@ -7,11 +7,8 @@ use Rattle.std.proofs.Math.Seq.{take-append_seam, drop-append_seam}
 use Rattle.std.proofs.lemmas.Bool.Decides.{nat_tests}
 use Rattle.std.proofs.lemmas.List.{take-append-drop, get_or-drop, length-take-le}
 use Rattle.std.proofs.lemmas.Nat.{from_le_bytes-to_le_bytes_2, le_bytes_2}
+use Rattle.smp_model.specs.ImageFaults.{AreBytes}
 use Rattle.smp_model.specs.Image.{Tlv, AreTlvs, IsArea, tlv_bytes, tlvs_bytes, area_bytes, tlvs_among, tlvs_of, area_of, number_16}
-
--- each is a byte
-abbrev pub AreBytes : List ℕ → Type 0
-AreBytes b = (i : ℕ) → get_or b i 0 < 256
 
 -- turns that suffice give the same TLVs
 pub tlvs_enough : (f g : ℕ) (b : List ℕ) → length b ≤ f → length b ≤ g → tlvs_among f b ≡ tlvs_among g b

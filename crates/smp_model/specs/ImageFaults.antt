@@ -1,5 +1,5 @@
 -- The first fault of bytes that are no image, in the words of its parts, and laws of the function that reads an image.
-use Rattle.std.specs.Prelude.{◌≡◌, ◌≢◌, ◌↔◌, ℕ, ◌+◌, ◌<◌, ◌≤◌, List, [], ◌∷◌, ◌++◌, length, take, filter, Option, Some, Ok, Err, bit_and}
+use Rattle.std.specs.Prelude.{◌≡◌, ◌≢◌, ◌↔◌, ℕ, ◌+◌, ◌<◌, ◌≤◌, ◌^◌, List, [], ◌∷◌, ◌++◌, length, take, filter, slice_index, Option, Some, Ok, Err, bit_and}
 use Rattle.sha2.specs.Sha256.{sha256}
 use Rattle.smp_model.specs.declared.reply.Version.{Version}
 use Rattle.smp_model.specs.declared.image.ImageHeader.{ImageHeader}
@@ -58,19 +58,23 @@ IsFirstFault b Tlvs = (h : ImageHeader) × (HasHeader h b × HasProtected h b ×
 IsFirstFault b NoHash = (h : ImageHeader) × (HasHeader h b × HasProtected h b × ((ts : List Tlv) × (HasTlvs h ts b × ((hash : List ℕ) → HasHash ts hash → ⊥))))
 IsFirstFault b _ = ⊥
 
--- reading gives exactly what the bytes are
-abbrev pub ReadsImages : List ℕ → Type 0
-ReadsImages b = (i : ImageInfo) → (image_of b ≡ Ok i) ↔ IsImage b i
+-- each is a byte
+abbrev pub AreBytes : List ℕ → Type 0
+AreBytes b = (i : ℕ) → slice_index b i < 256
+
+-- reading gives exactly the image that the bytes begin with
+abbrev pub ReadsImages : Type 0
+ReadsImages = (b : List ℕ) (i : ImageInfo) → AreBytes b → (image_of b ≡ Ok i) ↔ IsImage b i
 
 -- and else exactly the first fault
-abbrev pub ReadsFaults : List ℕ → Type 0
-ReadsFaults b = (fault : ImageFault) → (image_of b ≡ Err fault) ↔ IsFirstFault b fault
+abbrev pub ReadsFaults : Type 0
+ReadsFaults = (b : List ℕ) (fault : ImageFault) → AreBytes b → (image_of b ≡ Err fault) ↔ IsFirstFault b fault
 
 -- bytes after an image change nothing
 abbrev pub ReadsOn : Type 0
-ReadsOn = (b more : List ℕ) (i : ImageInfo) → image_of b ≡ Ok i → image_of (b ++ more) ≡ Ok i
+ReadsOn = (b more : List ℕ) (i : ImageInfo) → AreBytes b → image_of b ≡ Ok i → image_of (b ++ more) ≡ Ok i
 
--- an image is not longer than its bytes, and its hash has 32 bytes
+-- an image has a whole header before its TLVs, is not longer than its bytes, and its hash has 32 bytes
 pub record IsWithin (b : List ℕ) (i : ImageInfo) : Type 0 where
   pub hash : length i.hash ≡ 32
   pub least : 32 ≤ i.covered
@@ -80,16 +84,36 @@ pub record IsWithin (b : List ℕ) (i : ImageInfo) : Type 0 where
 abbrev pub ImagesAreWithin : Type 0
 ImagesAreWithin = (b : List ℕ) (i : ImageInfo) → image_of b ≡ Ok i → IsWithin b i
 
--- a good image is one whose hash is right
+-- a good image is an image whose hash is right
 abbrev pub GoodImagesAreRight : Type 0
 GoodImagesAreRight = (b : List ℕ) (i : ImageInfo) → (good_image b ≡ Some i) ↔ ((image_of b ≡ Ok i) × (i.hash ≡ sha256 (take i.covered b)))
+
+-- bytes after a good image change nothing
+abbrev pub StaysGood : Type 0
+StaysGood = (b more : List ℕ) (i : ImageInfo) → AreBytes b → good_image b ≡ Some i → good_image (b ++ more) ≡ Some i
+
+-- the numbers of a version fit the bytes that hold them
+pub record IsVersion (v : Version) : Type 0 where
+  pub major : v.major < 2 ^ 8
+  pub minor : v.minor < 2 ^ 8
+  pub revision : v.revision < 2 ^ 16
+  pub build : v.build < 2 ^ 32
 
 -- what is known of the image that is made of a payload
 abbrev pub made_info : List ℕ → Version → ImageInfo
 made_info payload version = record {
   version = version;
   flags = 0;
-  covered = length payload + 32;
-  «end» = length payload + 72;
+  covered = 32 + length payload;
+  «end» = 72 + length payload;
   hash = sha256 (made_covered payload version);
 }
+
+-- what is made is a good image, with nothing after it
+pub record IsMade (payload : List ℕ) (version : Version) : Type 0 where
+  pub is : IsImage (made_image payload version) (made_info payload version)
+  pub good : good_image (made_image payload version) ≡ Some (made_info payload version)
+  pub size : length (made_image payload version) ≡ 72 + length payload
+
+abbrev pub MadeImagesAreGood : Type 0
+MadeImagesAreGood = (payload : List ℕ) (version : Version) → length payload < 2 ^ 32 → IsVersion version → IsMade payload version
