@@ -13,6 +13,7 @@
 #![tactic(auto)]
 
 mod image;
+mod image_laws;
 mod packet;
 mod reply;
 mod request;
@@ -20,6 +21,10 @@ mod setting;
 mod upload;
 
 pub use image::{ImageFault, ImageHeader, ImageInfo, make_image};
+pub use image_laws::{
+    first_faults_are_read, good_images_are_right, images_are_read, images_end, images_lie_within,
+    made_images_are_good,
+};
 pub use packet::set_length;
 pub use reply::{Reply, SlotEntry, Version};
 pub use request::{Request, UploadPart};
