@@ -31,3 +31,6 @@ pub use hash::check_hash;
 pub use image::read_image;
 pub use lent::Lent;
 pub use smp_model::{ImageFault, ImageInfo};
+
+#[cfg(test)]
+mod tests;
