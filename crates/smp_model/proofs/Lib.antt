@@ -16,3 +16,9 @@ mod Refusals
 mod StoredForms
 mod NamedThings
 mod Consistency
+pub mod ImageAreas
+pub mod ImageHeaders
+pub mod ImageTests
+pub mod ImageReads
+pub mod ImageParts
+pub mod ImageGood

@@ -22,3 +22,4 @@ pub mod Handled
 pub mod Acknowledged
 pub mod Laws
 pub mod Consistent
+pub mod ImageFaults

@@ -14,6 +14,7 @@
 
 mod device;
 mod image;
+mod image_laws;
 mod laws;
 mod packet;
 mod plain;
@@ -30,6 +31,10 @@ mod upload;
 
 pub use device::{AbstractDevice, Counters, Side, Sizes, StoredFile, StoredFiles, Upload};
 pub use image::{ImageFault, ImageHeader, ImageInfo, make_image};
+pub use image_laws::{
+    first_faults_are_read, good_images_are_right, images_are_read, images_end, images_lie_within,
+    made_images_are_good,
+};
 pub use laws::{
     a_pending_slot_is_good, a_pending_slot_stays, acknowledged_bytes_are_held,
     answered_offsets_are_held, counters_are_answered, devices_stay_consistent, marks_are_due,

@@ -1,19 +1,17 @@
 -- An image by its tests, one after the other.
 use Rattle.std.proofs.Common.{◌≡◌, ℕ, ◌+◌, ◌<◌, ◌≤◌, Bool, true, false, List, length, take, drop, Option, Some, None, Result, Ok, Err, refl, sym, ap, ◌∙◌, arith}
-use Rattle.std.specs.Prelude.{nat_le, IfSome, IfOk}
-use Rattle.std.proofs.lemmas.Bool.Decides.{nat_tests}
+use Rattle.std.specs.Prelude.{nat_le, IfSome, IfOk, IfErr, ◌-◌}
 use Rattle.smp_model.specs.declared.image.ImageHeader.{ImageHeader}
 use Rattle.smp_model.specs.declared.image.ImageInfo.{ImageInfo}
 use Rattle.smp_model.specs.declared.image.ImageFault.{ImageFault}
-use Rattle.smp_model.specs.declared.image.ImageFault.TheVariants.{Short, Protected}
+use Rattle.smp_model.specs.declared.image.ImageFault.TheVariants.{Short, Protected, Tlvs, NoHash}
+use Rattle.smp_model.proofs.Tlvs.{false_le, true_le}
 use Rattle.smp_model.specs.Image.{image_of, header_of, with_header, with_areas, with_tlvs, covered_of, has_protected}
-use Rattle.smp_tlv.specs.Faults.{unless}
-
-false_le : (a b : ℕ) → b < a → nat_le a b ≡ false
-false_le a b h = grind (arith, nat_tests)
-
-true_le : (a b : ℕ) → a ≤ b → nat_le a b ≡ true
-true_le a b h = grind (arith, nat_tests)
+use Rattle.smp_flash.specs.declared.flash.FlashFault.{FlashFault}
+use Rattle.smp_flash.specs.Calls.{ReadsAtMost}
+use Rattle.smp_flash.proofs.Passing.{reads_add, reads_more}
+use Rattle.smp_tlv.specs.Faults.{unless, IsOfTlvs}
+use Rattle.smp_tlv.specs.State.{image_cost}
 
 pub image-short : (b : List ℕ) → length b < 32 → image_of b ≡ Err Short
 unfolding image_of
@@ -75,3 +73,17 @@ answers_tlvs (Some held) h covered there answer end right same is tlvs =
 pub IfOk-map : {A E : Type 0} (r : Result A E) (P Q : A → Type 0) → ((a : A) → P a → Q a) → IfOk r P → IfOk r Q
 IfOk-map (Ok a) P Q step p = step a p
 IfOk-map (Err e) P Q step p = tt
+
+-- how many bytes are read of an image: its header, its protected TLVs, and the others
+pub cost_of : (r : Result (Result ImageInfo ImageFault) FlashFault) (protected covered : ℕ) (a b c d : Option ℕ) → protected ≤ 65535 → 32 + protected ≤ covered
+    → ReadsAtMost 32 a b → ReadsAtMost protected b c → ReadsAtMost 65535 c d → IfOk r (λ answer. IfErr answer IsOfTlvs)
+    → IfOk r (λ answer. IfOk answer (λ info. covered + 4 ≤ info.end)) → IfOk r (λ answer. IfOk answer (λ info. ReadsAtMost (info.end - covered) c d))
+    → IfOk r (λ answer. ReadsAtMost (image_cost answer) a d)
+cost_of (Err f) protected covered a b c d most least x y z kind after cost = tt
+cost_of (Ok (Ok info)) protected covered a b c d most least x y z kind after cost =
+    reads_more (32 + protected + (info.end - covered)) info.end a d (omega arith) (reads_add (32 + protected) (info.end - covered) a c d (reads_add 32 protected a b c x y) cost)
+cost_of (Ok (Err Tlvs)) protected covered a b c d most least x y z kind after cost =
+    reads_more (32 + protected + 65535) 131102 a d (omega arith) (reads_add (32 + protected) 65535 a c d (reads_add 32 protected a b c x y) z)
+cost_of (Ok (Err NoHash)) protected covered a b c d most least x y z kind after cost =
+    reads_more (32 + protected + 65535) 131102 a d (omega arith) (reads_add (32 + protected) 65535 a c d (reads_add 32 protected a b c x y) z)
+cost_of (Ok (Err _)) protected covered a b c d most least x y z kind after cost = absurd kind

@@ -1,90 +1,15 @@
 -- TLVs one after the other.
-use Rattle.std.proofs.Common.{◌≡◌, ℕ, zero, suc, ◌+◌, ◌-◌, ◌<◌, ◌≤◌, true, false, List, [], ◌∷◌, length, take, drop, get_or, Option, Some, None, refl, sym, ap, ◌∙◌, subst, arith, length-drop}
-use Rattle.std.specs.Prelude.{nat_le, if◌then◌else◌, IfSome}
-use Rattle.std.specs.Int.{w16, from_le_bytes}
+use Rattle.std.proofs.Common.{◌≡◌, ℕ, ◌+◌, ◌-◌, ◌<◌, ◌≤◌, List, [], ◌∷◌, length, take, drop, get_or, Option, Some, None, refl, sym, ap, ◌∙◌, subst, arith}
+use Rattle.std.specs.Prelude.{IfSome}
 use Rattle.std.specs.Option.{option_map}
-use Rattle.std.proofs.lemmas.Bool.Decides.{nat_tests}
 use Rattle.std.proofs.lemmas.List.{drop-take, drop-drop, get_or-take}
 use Rattle.smp_flash.specs.Area.{area}
 use Rattle.smp_flash.proofs.Areas.{length-area, area-area}
-use Rattle.smp_model.specs.Image.{Tlv, tlvs_among, tlvs_of, number_16}
+use Rattle.smp_model.proofs.Tlvs.{tlvs_short, tlvs_past, next_of}
+use Rattle.smp_model.specs.Image.{Tlv, tlvs_of, number_16}
 use Rattle.smp_tlv.specs.Walking.{tlvs_between, outcome, only_with, Follows, Adds}
 use Rattle.smp_tlv.specs.declared.tlv.Hashes.TheVariants.{Missing}
 use Rattle.smp_tlv.specs.declared.tlv.Hashes.{Hashes}
-
--- turns that suffice give the same TLVs
-pub tlvs_enough : (f g : ℕ) (b : List ℕ) → length b ≤ f → length b ≤ g → tlvs_among f b ≡ tlvs_among g b
-tlvs_enough zero zero [] hf hg = refl
-tlvs_enough zero (suc g) [] hf hg = refl
-tlvs_enough (suc f) zero [] hf hg = refl
-tlvs_enough (suc f) (suc g) [] hf hg = refl
-tlvs_enough zero g (x ∷ t) hf hg = absurd (omega arith)
-tlvs_enough (suc f) zero (x ∷ t) hf hg = absurd (omega arith)
-tlvs_enough (suc f) (suc g) (k ∷ []) hf hg = refl
-tlvs_enough (suc f) (suc g) (k ∷ l ∷ []) hf hg = refl
-tlvs_enough (suc f) (suc g) (k ∷ l ∷ m ∷ []) hf hg = refl
-tlvs_enough (suc f) (suc g) (k ∷ l ∷ m ∷ n ∷ t) hf hg =
-    let size : ℕ = from_le_bytes w16 (m ∷ n ∷ []) in
-    let less = length-drop size t in
-    let rest : tlvs_among f (drop size t) ≡ tlvs_among g (drop size t) = tlvs_enough f g (drop size t) (omega arith) (omega arith) in
-    ap (λ (o : Option (List Tlv)). if nat_le size (length t) then option_map (λ ts. record { kind = from_le_bytes w16 (k ∷ l ∷ []); value = take size t } ∷ ts) o else None) rest
-
--- less than four bytes are no TLV
-pub tlvs_short : (r : List ℕ) → 0 < length r → length r < 4 → tlvs_of r ≡ None
-unfolding tlvs_of
-tlvs_short [] some few = absurd (omega arith)
-tlvs_short (k ∷ []) some few = refl
-tlvs_short (k ∷ l ∷ []) some few = refl
-tlvs_short (k ∷ l ∷ m ∷ []) some few = refl
-tlvs_short (k ∷ l ∷ m ∷ n ∷ t) some few = absurd (omega arith)
-
-false_le : (a b : ℕ) → b < a → nat_le a b ≡ false
-false_le a b h = grind (arith, nat_tests)
-
-true_le : (a b : ℕ) → a ≤ b → nat_le a b ≡ true
-true_le a b h = grind (arith, nat_tests)
-
--- a value that passes the end
-pub tlvs_past : (r : List ℕ) → 4 ≤ length r → length r < 4 + number_16 r 2 → tlvs_of r ≡ None
-unfolding tlvs_of
-tlvs_past [] some past = absurd (omega arith)
-tlvs_past (k ∷ []) some past = absurd (omega arith)
-tlvs_past (k ∷ l ∷ []) some past = absurd (omega arith)
-tlvs_past (k ∷ l ∷ m ∷ []) some past = absurd (omega arith)
-tlvs_past (k ∷ l ∷ m ∷ n ∷ t) some past =
-    let size : ℕ = from_le_bytes w16 (m ∷ n ∷ []) in
-    let longer : length t < size = omega arith in
-    let e : nat_le size (length t) ≡ false = false_le size (length t) longer in
-    rw e refl
-
--- one TLV, and then others
-pub tlvs_next : (r : List ℕ) → 4 ≤ length r → 4 + number_16 r 2 ≤ length r
-    → tlvs_of r ≡ option_map (λ ts. record { kind = number_16 r 0; value = take (number_16 r 2) (drop 4 r) } ∷ ts) (tlvs_of (drop (number_16 r 2) (drop 4 r)))
-unfolding tlvs_of
-tlvs_next [] some fits = absurd (omega arith)
-tlvs_next (k ∷ []) some fits = absurd (omega arith)
-tlvs_next (k ∷ l ∷ []) some fits = absurd (omega arith)
-tlvs_next (k ∷ l ∷ m ∷ []) some fits = absurd (omega arith)
-tlvs_next (k ∷ l ∷ m ∷ n ∷ t) some fits =
-    let size : ℕ = from_le_bytes w16 (m ∷ n ∷ []) in
-    let inside : size ≤ length t = omega arith in
-    let e : nat_le size (length t) ≡ true = true_le size (length t) inside in
-    let less = length-drop size t in
-    let rest : tlvs_among (suc (suc (suc (length t)))) (drop size t) ≡ tlvs_among (length (drop size t)) (drop size t) = tlvs_enough (suc (suc (suc (length t)))) (length (drop size t)) (drop size t) (omega arith) (omega arith) in
-    rw (e, rest) refl
-
-triple : {a b : ℕ} {u v x y : List ℕ} → a ≡ b → u ≡ v → x ≡ y → ◌≡◌ {A = ℕ × List ℕ × List ℕ} (a, u, x) (b, v, y)
-triple e f g = rw (e, f, g) refl
-
--- the same with the numbers and the parts by their own names
-next_of : (r : List ℕ) (kind size : ℕ) (value rest : List ℕ) → number_16 r 0 ≡ kind → number_16 r 2 ≡ size → 4 + size ≤ length r
-    → take size (drop 4 r) ≡ value → drop size (drop 4 r) ≡ rest
-    → tlvs_of r ≡ option_map (λ ts. record { kind = kind; value = value } ∷ ts) (tlvs_of rest)
-next_of r kind size value rest k n fits is_value is_rest =
-    let v : take (number_16 r 2) (drop 4 r) ≡ value = rw n is_value in
-    let t : drop (number_16 r 2) (drop 4 r) ≡ rest = rw n is_rest in
-    tlvs_next r (omega arith) (omega arith)
-    ∙ ap (λ (p : ℕ × List ℕ × List ℕ). option_map (λ ts. record { kind = p.0; value = p.1 } ∷ ts) (tlvs_of p.2)) (triple k v t)
 
 number-take : (n i : ℕ) (xs : List ℕ) → i + 1 < n → number_16 (take n xs) i ≡ number_16 xs i
 number-take n i xs h =

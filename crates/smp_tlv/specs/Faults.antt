@@ -4,7 +4,7 @@ use Rattle.smp_flash.specs.declared.flash.FlashFault.{FlashFault}
 use Rattle.smp_flash.specs.declared.flash.FlashFault.TheVariants as flash_faults
 use Rattle.smp_model.specs.declared.image.ImageInfo.{ImageInfo}
 use Rattle.smp_model.specs.declared.image.ImageFault.{ImageFault}
-use Rattle.smp_model.specs.declared.image.ImageFault.TheVariants.{WrongHash, TooLarge, Fault, Off}
+use Rattle.smp_model.specs.declared.image.ImageFault.TheVariants.{Magic, HeaderSize, Encrypted, Bounds, Tlvs, NoHash, WrongHash, TooLarge, Fault, Off}
 
 -- a fault that reading an image finds in its bytes
 abbrev pub IsOfBytes : ImageFault → Type 0
@@ -13,6 +13,20 @@ IsOfBytes TooLarge = ⊥
 IsOfBytes Fault = ⊥
 IsOfBytes Off = ⊥
 IsOfBytes _ = Unit {0}
+
+-- a fault that the header's tests find
+abbrev pub IsOfHeader : ImageFault → Type 0
+IsOfHeader Magic = Unit {0}
+IsOfHeader HeaderSize = Unit {0}
+IsOfHeader Encrypted = Unit {0}
+IsOfHeader Bounds = Unit {0}
+IsOfHeader _ = ⊥
+
+-- a fault that the TLVs behind the covered bytes show
+abbrev pub IsOfTlvs : ImageFault → Type 0
+IsOfTlvs Tlvs = Unit {0}
+IsOfTlvs NoHash = Unit {0}
+IsOfTlvs _ = ⊥
 
 -- a fault of checking a hash
 abbrev pub IsOfHash : ImageFault → Type 0

@@ -1,9 +1,10 @@
 // The two areas of TLVs.
-ghost use Rattle.std.specs.Prelude.{◌≡◌, ◌+◌, ◌<◌, ◌≤◌, ◌^◌, drop, IfOk, IfErr, IfSome};
+ghost use Rattle.std.specs.Prelude.{◌≡◌, ◌+◌, ◌-◌, ◌<◌, ◌≤◌, ◌^◌, drop, IfOk, IfErr, IfSome};
+ghost use Rattle.smp_flash.specs.Calls.{ReadsAtMost};
 ghost use Rattle.smp_flash.specs.State.{end_of};
 ghost use Rattle.smp_flash.specs.declared.flash.Operation.TheVariants.{Read};
 ghost use Rattle.smp_model.specs.Image.{covered_of, has_protected as is_protected, with_tlvs};
-ghost use Rattle.smp_tlv.specs.Faults.{IsOfBytes};
+ghost use Rattle.smp_tlv.specs.Faults.{IsOfTlvs};
 ghost use Rattle.smp_tlv.specs.State.{Looks};
 ghost use Rattle.smp_tlv.specs.Walking.{info_by};
 
@@ -26,7 +27,7 @@ pub fn has_protected<B: Bytes>(
 ) -> Result<bool, FlashFault>
     requires covered { covered ≡ covered_of header.now }
     requires inside { covered + 4 ≤ (B.state b.old).size }
-    ensures looks { Looks 65535 (end_of Read result) (B.state b.old) (B.state b.new) }
+    ensures looks { Looks header.now.protected_size (end_of Read result) (B.state b.old) (B.state b.new) }
     ensures there { IfOk result (λ there. IfSome (B.state b.old).bytes (λ held. there ≡ is_protected header.now.protected_size (drop (header.now.header_size + header.now.image_size) held))) }
 {
     let size = u32::from(header.protected_size);
@@ -53,9 +54,10 @@ fn info_from(
     hash: Option<Option<[u8; 32]>>,
 ) -> Result<ImageInfo, ImageFault>
     requires covered { covered ≡ covered_of header.now }
+    requires some { 4 ≤ size }
     requires fits { covered + size < 2 ^ 32 }
     ensures info { result ≡ info_by header.now size hash }
-    ensures kind { IfErr result IsOfBytes }
+    ensures kind { IfErr result IsOfTlvs }
     ensures covered { IfOk result (λ info. info.covered ≡ covered_of header.now) }
     ensures end { IfOk result (λ info. info.end ≡ covered + size) }
 {
@@ -82,8 +84,10 @@ pub fn read_tlvs<B: Bytes>(
     requires inside { covered + 4 ≤ (B.state b.old).size }
     ensures looks { Looks 65535 (end_of Read result) (B.state b.old) (B.state b.new) }
     ensures answer { IfOk result (λ answer. IfSome (B.state b.old).bytes (λ held. answer ≡ with_tlvs header.now (drop covered held))) }
-    ensures kind { IfOk result (λ answer. IfErr answer IsOfBytes) }
+    ensures kind { IfOk result (λ answer. IfErr answer IsOfTlvs) }
+    ensures cost { IfOk result (λ answer. IfOk answer (λ info. ReadsAtMost (info.end - covered) (B.state b.old).holder.bytes_read (B.state b.new).holder.bytes_read)) }
     ensures covered { IfOk result (λ answer. IfOk answer (λ info. info.covered ≡ covered)) }
+    ensures after { IfOk result (λ answer. IfOk answer (λ info. covered + 4 ≤ info.end)) }
     ensures inside { IfOk result (λ answer. IfOk answer (λ info. info.end ≤ (B.state b.old).size)) }
 {
     let head = read_head(b, covered)?;

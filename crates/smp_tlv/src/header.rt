@@ -1,9 +1,9 @@
 // The header of an image.
-ghost use Rattle.std.specs.Prelude.{◌≡◌, ◌+◌, ◌≤◌, List, ℕ, length, take, IfOk, IfErr, IfSome};
+ghost use Rattle.std.specs.Prelude.{◌≡◌, ◌+◌, ◌≤◌, List, ℕ, length, take, IfOk, IfErr, IfSome, OnOk};
 ghost use Rattle.smp_flash.specs.State.{end_of};
 ghost use Rattle.smp_flash.specs.declared.flash.Operation.TheVariants.{Read};
 ghost use Rattle.smp_model.specs.Image.{header_of, covered_of, with_header, with_areas};
-ghost use Rattle.smp_tlv.specs.Faults.{unless, IsOfBytes};
+ghost use Rattle.smp_tlv.specs.Faults.{unless, IsOfHeader};
 ghost use Rattle.smp_tlv.specs.State.{Looks};
 
 use crate::bytes::Bytes;
@@ -57,7 +57,9 @@ pub fn check_header(header: &ImageHeader, size: u32) -> Result<u32, ImageFault>
     ensures tests { (b : List ℕ) → length b ≡ size → with_header header.now b ≡ unless result (with_areas header.now b) }
     ensures covered { IfOk result (λ covered. covered ≡ covered_of header.now) }
     ensures fits { IfOk result (λ covered. covered + 4 ≤ size) }
-    ensures kind { IfErr result IsOfBytes }
+    ensures small { OnOk result (header.now.protected_size ≤ 65535) }
+    ensures least { IfOk result (λ covered. 32 + header.now.protected_size ≤ covered) }
+    ensures kind { IfErr result IsOfHeader }
 {
     if header.magic != IMAGE_MAGIC {
         return Err(ImageFault::Magic);

@@ -1,11 +1,12 @@
 // An image from its bytes.
 ghost use Rattle.std.specs.Prelude.{◌≡◌, ◌↔◌, ◌+◌, ◌<◌, ◌≤◌, IfOk, IfErr, IfSome, Err};
+ghost use Rattle.smp_flash.specs.Calls.{ReadsAtMost};
 ghost use Rattle.smp_flash.specs.State.{end_of};
 ghost use Rattle.smp_flash.specs.State.End.{Went};
 ghost use Rattle.smp_flash.specs.declared.flash.Operation.TheVariants.{Read};
 ghost use Rattle.smp_model.specs.Image.{image_of};
 ghost use Rattle.smp_tlv.specs.Faults.{IsOfBytes, IsOfReading, image_fault};
-ghost use Rattle.smp_tlv.specs.State.{Looks, image_end};
+ghost use Rattle.smp_tlv.specs.State.{Looks, IsInside, image_end, image_cost};
 
 use crate::area::{has_protected, read_tlvs};
 use crate::bytes::Bytes;
@@ -17,8 +18,9 @@ use smp_model::{ImageFault, ImageInfo};
 fn find_image<B: Bytes>(b: &mut B) -> Result<Result<ImageInfo, ImageFault>, FlashFault>
     ensures looks { Looks 131102 (end_of Read result) (B.state b.old) (B.state b.new) }
     ensures answer { IfOk result (λ answer. IfSome (B.state b.old).bytes (λ held. answer ≡ image_of held)) }
+    ensures cost { IfOk result (λ answer. ReadsAtMost (image_cost answer) (B.state b.old).holder.bytes_read (B.state b.new).holder.bytes_read) }
     ensures kind { IfOk result (λ answer. IfErr answer IsOfBytes) }
-    ensures inside { IfOk result (λ answer. IfOk answer (λ info. (info.covered + 4 ≤ (B.state b.old).size) × (info.end ≤ (B.state b.old).size))) }
+    ensures inside { IfOk result (λ answer. IfOk answer (IsInside (B.state b.old).size)) }
 {
     let size = b.length();
     if size < 32 {
@@ -53,10 +55,10 @@ pub fn passed_on(fault: FlashFault) -> ImageFault
 /// and nothing is read after them. At most 131102 bytes are read: a header and two areas of TLVs.
 pub fn read_image<B: Bytes>(b: &mut B) -> Result<ImageInfo, ImageFault>
     ensures looks { Looks 131102 (image_end result) (B.state b.old) (B.state b.new) }
+    ensures cost { ReadsAtMost (image_cost result) (B.state b.old).holder.bytes_read (B.state b.new).holder.bytes_read }
     ensures image { image_end result ≡ Went → IfSome (B.state b.old).bytes (λ held. result ≡ image_of held) }
     ensures kind { IfErr result IsOfReading }
-    ensures covered { IfOk result (λ info. info.covered + 4 ≤ (B.state b.old).size) }
-    ensures inside { IfOk result (λ info. info.end ≤ (B.state b.old).size) }
+    ensures inside { IfOk result (IsInside (B.state b.old).size) }
 {
     match find_image(b) {
         Ok(answer) => answer,

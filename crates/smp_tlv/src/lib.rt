@@ -23,11 +23,16 @@ mod bytes;
 mod hash;
 mod header;
 mod image;
+mod laws;
 mod lent;
 mod tlv;
 
 pub use bytes::Bytes;
 pub use hash::check_hash;
 pub use image::read_image;
+pub use laws::{looks_compose, looks_pass_faults_on};
 pub use lent::Lent;
 pub use smp_model::{ImageFault, ImageInfo};
+
+#[cfg(test)]
+mod tests;

@@ -1,6 +1,6 @@
 use Rattle.std.proofs.Common.{sym, ◌∙◌, arith}
 use Rattle.smp_flash.proofs.Telling.{IfSome-same}
-use Rattle.smp_tlv.proofs.Images.{answers_short, tested, answers_fault, answers_areas, answers_protected, answers_tlvs, IfOk-map}
+use Rattle.smp_tlv.proofs.Images.{answers_short, tested, answers_fault, answers_areas, answers_protected, answers_tlvs, IfOk-map, cost_of}
 use Rattle.smp_tlv.proofs.image.find_image.Goals as goal
 
 pub returns-then-size-lt32-clause-answer : goal.returns-then-size-lt32-clause-answer
@@ -32,3 +32,8 @@ returns-clause-answer g c =
     (IfSome-same _ _ x (sym c.in_ok-header.ensures.looks.held) c.in_ok-has_protected.ensures.there)
     (IfSome-same _ _ x (sym held) tlvs))
     c.read_tlvs.ensures.answer
+
+pub returns-clause-cost : goal.returns-clause-cost
+returns-clause-cost g c =
+    cost_of c.read_tlvs.result c.in_ok-header.header.protected_size c.in-Ok.covered _ _ _ _ c.in-Ok.ensures.small c.in-Ok.ensures.least
+    c.in_ok-header.ensures.looks.reads c.in_ok-has_protected.ensures.looks.reads c.read_tlvs.ensures.looks.reads c.read_tlvs.ensures.kind c.read_tlvs.ensures.after c.read_tlvs.ensures.cost
