@@ -272,6 +272,25 @@ good_of_image (Some u) i h = go (is_complete u) (differs u.announcement.digest u
     go true true e f k = cc
     go false c e f k = cc
 
+-- and a good upload has one
+behind_tests : (b c : Bool) (x : Option ImageInfo) → b ≡ true → c ≡ false → x ≡ (if b && not c then x else None)
+behind_tests true false x e f = refl
+behind_tests true true x e f = cc
+behind_tests false c x e f = cc
+
+pub image_of_good : (u : Option Upload) → GoodUpload u → IsSome (uploaded_image u)
+image_of_good None h = absurd h
+image_of_good (Some u) h =
+    let full : is_complete u ≡ true = grind (arith, nat_tests, h.size) in
+    subst IsSome (behind_tests (is_complete u) (differs u.announcement.digest u.accepted) (good_image u.accepted) full (not_differs u.announcement.digest u.accepted h.digest)) h.image
+
+pub good_of_some : (u : Option Upload) → IsSome (uploaded_image u) → GoodUpload u
+good_of_some u h = go (uploaded_image u) refl h
+  where
+    go : (i : Option ImageInfo) → uploaded_image u ≡ i → IsSome i → GoodUpload u
+    go None e k = cc
+    go (Some i) e k = good_of_image u i e
+
 mark_lawful : (m : Mark) (p : Option Mark) (e : AbstractDevice) → e.side.pending ≡ p → GoodUpload e.side.upload → AllLawful e (marks m p e).steps
 mark_lawful m None e h g = ((h, g), tt)
 mark_lawful m (Some k) e h g = either_way (λ (r : Response). AllLawful e r.steps) (same_mark k m) (lists_after [] e) (refuses_image 28) tt tt

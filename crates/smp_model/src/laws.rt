@@ -1,6 +1,6 @@
 // Laws of the abstract device, each as the contract of a function that does nothing: what holds of every step of every
 // request, from whatever state.
-ghost use Rattle.std.specs.Prelude.{◌≡◌, ◌⊎◌, ◌+◌, ◌≤◌, ◌<◌, [], ◌∷◌, ◌++◌, ℕ, List, Option, Some, None, IsTrue, length};
+ghost use Rattle.std.specs.Prelude.{◌≡◌, ◌↔◌, ◌⊎◌, ◌+◌, ◌≤◌, ◌<◌, [], ◌∷◌, ◌++◌, ℕ, List, Option, Some, None, IsSome, IsTrue, length};
 ghost use Rattle.smp_model.specs.declared.device.AbstractDevice.{AbstractDevice as Device};
 ghost use Rattle.smp_model.specs.declared.device.Sizes.{Sizes as FlashSizes};
 ghost use Rattle.smp_model.specs.declared.device.Upload.{Upload as Uploaded};
@@ -10,16 +10,22 @@ ghost use Rattle.smp_model.specs.Acknowledged.{acknowledged, chosen_since, Cover
 ghost use Rattle.smp_model.specs.Consistent.{HasText, IsConsistent};
 ghost use Rattle.smp_model.specs.Counters.{os_reply};
 ghost use Rattle.smp_model.specs.Does.{does};
-ghost use Rattle.smp_model.specs.Laws.{EachStep, IsApart, IsDue, PendingIsGood, ReplyHeld, Reaches, SameUpload};
+ghost use Rattle.smp_model.specs.Laws.{EachStep, GoodUpload, IsApart, IsDue, PendingIsGood, ReplyHeld, Reaches, SameUpload};
 ghost use Rattle.smp_model.specs.Meant.{Meant, save, upload};
 ghost use Rattle.smp_model.specs.Response.{replies};
 ghost use Rattle.smp_model.specs.Said.{Said, is_error};
 ghost use Rattle.smp_model.specs.Settings.{IsStoredForm, is_within_limits, settings_in, stored_form};
+ghost use Rattle.smp_model.specs.Uploads.{uploaded_image};
 ghost use Rattle.smp_model.specs.Steps.{Step, MarkPending, Part, applied, settle, settle_steps, start};
 
 /// A mark is set only where nothing is pending, the upload is good, and its image is the one that is asked for.
 pub fn marks_are_due()
     ensures { (sizes : FlashSizes) (d : Device) (m : Meant) (mark : Marked) (front rest : List Step) → (does sizes d m).steps ≡ front ++ MarkPending mark ∷ rest → IsDue d m mark }
+{}
+
+/// An upload is good exactly where it has an image that a mark may ask for.
+pub fn good_uploads_have_images()
+    ensures { (u : Option Uploaded) → GoodUpload u ↔ IsSome (uploaded_image u) }
 {}
 
 /// While a good slot is pending, no request has a step on the upload or the mark, and both stay.

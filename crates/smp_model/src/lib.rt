@@ -37,9 +37,9 @@ pub use image_laws::{
 };
 pub use laws::{
     a_pending_slot_is_good, a_pending_slot_stays, acknowledged_bytes_are_held,
-    answered_offsets_are_held, counters_are_answered, devices_stay_consistent, marks_are_due,
-    only_a_save_saves, refusals_change_nothing, settling_is_done_once,
-    stored_settings_are_read_back, the_next_part_is_kept,
+    answered_offsets_are_held, counters_are_answered, devices_stay_consistent,
+    good_uploads_have_images, marks_are_due, only_a_save_saves, refusals_change_nothing,
+    settling_is_done_once, stored_settings_are_read_back, the_next_part_is_kept,
 };
 pub use packet::set_length;
 pub use plain::{PlainChange, PlainResponse, PlainStep, does};
