@@ -35,4 +35,6 @@ pub use lent::Lent;
 pub use smp_model::{ImageFault, ImageInfo};
 
 #[cfg(test)]
+mod part;
+#[cfg(test)]
 mod tests;
