@@ -1,3 +1,4 @@
 pub mod Walks
 pub mod Images
 pub mod Hashing
+pub mod Parts

@@ -1,4 +1,5 @@
 pub mod Faults
 pub mod Lent
+pub mod Part
 pub mod State
 pub mod Walking

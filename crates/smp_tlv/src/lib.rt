@@ -30,9 +30,11 @@ mod tlv;
 pub use bytes::Bytes;
 pub use hash::check_hash;
 pub use image::read_image;
-pub use laws::{looks_compose, looks_pass_faults_on};
+pub use laws::{lent_bytes_are_read, looks_compose, looks_pass_faults_on};
 pub use lent::Lent;
 pub use smp_model::{ImageFault, ImageInfo};
 
+#[cfg(test)]
+mod part;
 #[cfg(test)]
 mod tests;

@@ -474,19 +474,36 @@ static ROWS: [Row; 72] = [
     (32, None, H, &[(3, 151)], 0, Err(ImageFault::Magic)),
 ];
 
+/// Appends a TLV of this type and length.
+fn put_tlv(bytes: &mut Vec<u8>, kind: u8, length: u8) -> Result<(), AllocError> {
+    bytes.extend_from_slice(&[kind, 0, length, 0])?;
+    for _ in 0..length {
+        bytes.push(0xab)?;
+    }
+    Ok(())
+}
+
 /// Appends an area of these TLVs.
 fn put_area(bytes: &mut Vec<u8>, magic: u16, tlvs: &[u8]) -> Result<(), AllocError> {
-    let mut total = 4u16;
-    for tlv in tlvs.chunks_exact(2) {
-        total = total.saturating_add(4 + u16::from(tlv[1]));
-    }
     bytes.extend_from_slice(&magic.to_le_bytes())?;
-    bytes.extend_from_slice(&total.to_le_bytes())?;
+    let start = bytes.len();
+    bytes.extend_from_slice(&[0, 0])?;
     for tlv in tlvs.chunks_exact(2) {
-        bytes.extend_from_slice(&[tlv[0], 0, tlv[1], 0])?;
-        for _ in 0..tlv[1] {
-            bytes.push(0xab)?;
-        }
+        put_tlv(bytes, tlv[0], tlv[1])?;
+    }
+    let total = bytes.len().saturating_sub(start).saturating_add(2);
+    apply(bytes, Change::Byte(start, (total % 256) as u8));
+    apply(
+        bytes,
+        Change::Byte(start.saturating_add(1), (total / 256 % 256) as u8),
+    );
+    Ok(())
+}
+
+/// Appends so many bytes.
+fn put_bytes(bytes: &mut Vec<u8>, count: u32, byte: u8) -> Result<(), AllocError> {
+    for _ in 0..count {
+        bytes.push(byte)?;
     }
     Ok(())
 }
@@ -499,9 +516,7 @@ fn built(alloc: Global, row: &Row) -> Result<Vec<u8>, AllocError> {
     bytes.extend_from_slice(&header_size.to_le_bytes())?;
     bytes.extend_from_slice(&[0, 0, 8, 0, 0, 0, 0, 0, 0, 0])?;
     bytes.extend_from_slice(&[1, 2, 3, 0, 4, 0, 0, 0, 0, 0, 0, 0])?;
-    for _ in 32..header_size {
-        bytes.push(0xee)?;
-    }
+    put_bytes(&mut bytes, u32::from(header_size).saturating_sub(32), 0xee)?;
     bytes.extend_from_slice(&[0, 1, 2, 3, 4, 5, 6, 7])?;
     let before = bytes.len();
     if let Some(tlvs) = protected {
@@ -514,12 +529,11 @@ fn built(alloc: Global, row: &Row) -> Result<Vec<u8>, AllocError> {
     for (at, byte) in changes {
         apply(&mut bytes, Change::Byte(*at, *byte));
     }
-    for _ in 0..after {
-        bytes.push(0)?;
-    }
     if after < 0 {
         let size = bytes.len();
         bytes.truncate(size.saturating_sub(after.unsigned_abs() as usize));
+    } else {
+        put_bytes(&mut bytes, after.unsigned_abs(), 0)?;
     }
     Ok(bytes)
 }

@@ -1,0 +1,9 @@
+use Rattle.std.proofs.Common.{length}
+use Rattle.std.proofs.lemmas.Result.{on_ok_weaker}
+use Rattle.smp_tlv.proofs.Parts.{part_read}
+use Rattle.smp_tlv.proofs.part.PartBytes.read.Goals as goal
+
+pub returns-clause-bytes : goal.returns-clause-bytes
+returns-clause-bytes g c = on_ok_weaker c.read.result
+    (part_read (g.F.Flash.state c.args.self.now.flash.now).bytes c.args.self.now.at c.args.self.now.size c.args.at (length c.args.into.now) c.read.new.into c.requires)
+    c.read.ensures.bytes
