@@ -20,6 +20,7 @@ mod plain;
 mod plain_files;
 mod plain_image;
 mod plain_images;
+mod plain_laws;
 mod plain_settings;
 mod plain_steps;
 mod plain_uploads;
@@ -38,6 +39,7 @@ pub use laws::{
 };
 pub use packet::set_length;
 pub use plain::{PlainChange, PlainResponse, PlainStep, does};
+pub use plain_laws::devices_stay_sound;
 pub use plain_steps::{after, start};
 pub use reply::{Reply, SlotEntry, Version};
 pub use request::{Request, UploadPart};

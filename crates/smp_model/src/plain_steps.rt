@@ -13,8 +13,8 @@ use crate::plain::{PlainChange, PlainResponse, PlainStep};
 use crate::plain_settings::precedes;
 use crate::plain_uploads::is_spoiled;
 use crate::{
-    AbstractDevice, Announcement, Counters, Mark, Pairs, Reply, Setting, Side, StoredFile, StoredFiles,
-    Upload,
+    AbstractDevice, Announcement, Counters, Mark, Pairs, Reply, Setting, Side, StoredFile,
+    StoredFiles, Upload,
 };
 use smp_edge::Octets;
 use std::alloc::{AllocError, Global};
@@ -164,11 +164,7 @@ fn written_setting(
     Ok(all)
 }
 
-fn deleted_setting(
-    alloc: Global,
-    settings: &[Setting],
-    name: &[u8],
-) -> Result<Pairs, AllocError>
+fn deleted_setting(alloc: Global, settings: &[Setting], name: &[u8]) -> Result<Pairs, AllocError>
     ensures { IfOk result (λ all. all ≡ deleted_setting name.now settings.now) }
 {
     let mut all = Pairs::new(alloc);
