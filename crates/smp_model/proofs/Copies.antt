@@ -1,5 +1,5 @@
 -- Copies of lists.
-use Rattle.std.proofs.Common.{◌≡◌, Bool, true, List, [], ◌∷◌, refl, ap}
+use Rattle.std.proofs.Common.{◌≡◌, true, List, [], ◌∷◌, refl, ap}
 use Rattle.std.specs.List.{filter}
 
 -- all that stands in a list

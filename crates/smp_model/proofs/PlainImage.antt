@@ -1,12 +1,10 @@
 -- What the plain program finds of an image, and what the definition asks for.
-use Rattle.std.proofs.Common.{◌≡◌, ℕ, ◌+◌, ◌<◌, ◌≤◌, Bool, true, false, List, [], ◌∷◌, length, take, drop, Option, Some, None, Result, refl, sym, ap, ◌∙◌, arith, bit_and}
+use Rattle.std.proofs.Common.{◌≡◌, ℕ, ◌+◌, ◌<◌, ◌≤◌, true, false, List, [], ◌∷◌, length, take, drop, Option, Some, None, refl, sym, ap, ◌∙◌, arith, bit_and}
 use Rattle.std.specs.Prelude.{nat_le, ◌==◌, if◌then◌else◌}
 use Rattle.std.specs.List.{filter}
 use Rattle.std.specs.Option.{option_map}
 use Rattle.std.proofs.lemmas.Bool.Decides.{nat_tests}
 use Rattle.smp_model.specs.declared.image.ImageHeader.{ImageHeader}
-use Rattle.smp_model.specs.declared.image.ImageInfo.{ImageInfo}
-use Rattle.smp_model.specs.declared.image.ImageFault.{ImageFault}
 use Rattle.smp_model.specs.declared.plain_image.FoundHash.{FoundHash}
 use Rattle.smp_model.specs.declared.plain_image.FoundHash.TheVariants as founds
 use Rattle.smp_model.specs.Image.{Tlv, is_hash, hash_type, tlvs_of, number_16, only_hash, hashed, info_of, with_header, with_tlvs, has_protected, covered_of, image_magic, encrypted_flags, image_of, header_of}

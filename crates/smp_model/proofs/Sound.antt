@@ -1,5 +1,5 @@
 -- Requests, settling and a start lead from a sound device to a sound one.
-use Rattle.std.proofs.Common.{◌≡◌, ℕ, ◌+◌, ◌<◌, ◌≤◌, ◌==◌, not, List, [], ◌∷◌, ◌++◌, length, Bool, true, false, Option, Some, None, refl, sym, ap, ◌∙◌, subst, arith, length-append, append-nil, if◌then◌else◌, nat_lt}
+use Rattle.std.proofs.Common.{◌≡◌, ℕ, ◌+◌, ◌≤◌, ◌==◌, not, List, [], ◌∷◌, ◌++◌, length, Bool, true, false, Option, Some, None, refl, sym, ap, ◌∙◌, subst, arith, length-append, if◌then◌else◌, nat_lt}
 use Rattle.std.specs.Prelude.{IfSome}
 use Rattle.std.specs.List.{All, find, filter}
 use Rattle.std.specs.Str.{bytes_eq}
@@ -26,10 +26,10 @@ use Rattle.smp_model.specs.Said as said
 use Rattle.smp_model.specs.Said.{Said}
 use Rattle.smp_model.specs.Settings.{value_of, is_setting_name, is_setting_value, is_full}
 use Rattle.smp_model.specs.SettingsGroup.{reads_value, reads_setting, writes_setting, deletes_value, deletes_setting}
-use Rattle.smp_model.specs.Steps.{Change, write_setting, delete_setting, load_settings, begin_file, append_file, Step, Choose, Append, Drop, MarkPending, Confirm, Save, Run, Part, apply, applied, appended, chosen, settle, settle_steps, start, counted}
+use Rattle.smp_model.specs.Steps.{Change, write_setting, delete_setting, load_settings, begin_file, append_file, Step, Choose, Append, Drop, MarkPending, Confirm, Save, Run, Part, apply, applied, appended, settle, settle_steps, start, counted}
 use Rattle.smp_model.specs.Uploads.{differs, kept, is_resumed_by}
 use Rattle.smp_model.proofs.Cases.{by_if, either_way}
-use Rattle.smp_model.proofs.ImageSteps.{OfMarks, each_set}
+use Rattle.smp_model.proofs.ImageSteps.{each_set}
 use Rattle.smp_model.proofs.Consistency.{kept_fewer}
 
 -- the bytes of a part fit an upload, and a file

@@ -38,8 +38,9 @@ pub use laws::{
     stored_settings_are_read_back, the_next_part_is_kept,
 };
 pub use packet::set_length;
-pub use plain::{PlainChange, PlainResponse, PlainStep, does};
+pub use plain::{PlainChange, PlainResponse, PlainStep, does, is_sound};
 pub use plain_laws::devices_stay_sound;
+pub use plain_settings::{are_storable, stored_form};
 pub use plain_steps::{after, start};
 pub use reply::{Reply, SlotEntry, Version};
 pub use request::{Request, UploadPart};

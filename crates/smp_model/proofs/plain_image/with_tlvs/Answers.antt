@@ -1,6 +1,5 @@
 use Rattle.std.proofs.Common.{arith}
 use Rattle.std.proofs.lemmas.Grind.{common_steps}
-use Rattle.smp_model.specs.Image.{area_of}
 use Rattle.smp_model.proofs.PlainImage.{hashed_by}
 use Rattle.smp_model.proofs.plain_image.with_tlvs.Goals as goal
 
