@@ -46,3 +46,6 @@ pub use reply::{Reply, SlotEntry, Version};
 pub use request::{Request, UploadPart};
 pub use setting::{Pairs, Setting};
 pub use upload::{Announcement, Ending, Mark};
+
+#[cfg(test)]
+mod tests;
