@@ -51,7 +51,10 @@ fn check(rt: &impl Abort, device: &AbstractDevice, cases: &[Case<'_>]) {
         let (request, reply, kinds) = case;
         let response = does(&SIZES, device, request);
         assert_eq!(rt; response.reply, *reply, "case {i}");
-        assert!(rt; are_of(response.steps.as_slice(), kinds.as_bytes()), "case {i}");
+        assert!(rt;
+            are_of(response.steps.as_slice(), kinds.as_bytes()),
+            "case {i}"
+        );
     }
 }
 
@@ -126,6 +129,14 @@ fn zeros(alloc: Global, count: u32) -> Result<Octets, AllocError> {
     Ok(Octets::from_vec(bytes))
 }
 
+/// The bytes from a place up to another.
+fn cut(bytes: &[u8], from: usize, to: usize) -> &[u8] {
+    match bytes.get(from..to) {
+        Some(part) => part,
+        None => b"none",
+    }
+}
+
 /// A part of an image, without a digest.
 fn part<'a>(image: u32, off: u32, len: Option<u32>, bytes: &'a [u8]) -> Request<'a> {
     Request::Upload(UploadPart {
@@ -168,8 +179,8 @@ fn refused_starts(rt: HostRuntime) -> Result<(), Fail> {
     let short = with_magic(alloc, 31)?;
     let other = zeros(alloc, 33)?;
     let other = other.as_slice();
-    let (digest, long) = (&other[..32], &other[..33]);
-    let (few, none) = (&other[..31], &other[..0]);
+    let (digest, long) = (cut(other, 0, 32), cut(other, 0, 33));
+    let (few, none) = (cut(other, 0, 31), cut(other, 0, 0));
     let no_length = Request::Upload(UploadPart {
         image: 0,
         off: 0,
@@ -210,7 +221,7 @@ fn starts(rt: HostRuntime) -> Result<(), Fail> {
     let device = empty_device(alloc, octets(alloc, b"")?);
     let data = with_magic(alloc, 48)?;
     let data = data.as_slice();
-    let odd = &data[..36];
+    let odd = cut(data, 0, 36);
     let digest = Sha256::digest(data);
     let digest = digest.as_slice();
     let other = zeros(alloc, 32)?;
@@ -252,13 +263,13 @@ fn uploading(
 fn parts(rt: HostRuntime) -> Result<(), Fail> {
     let alloc = rt.alloc();
     let all = with_magic(alloc, 101)?;
-    let (all, longer) = (&all.as_slice()[..100], &all.as_slice()[..101]);
+    let (all, longer) = (cut(all.as_slice(), 0, 100), cut(all.as_slice(), 0, 101));
     let sha = Sha256::digest(all);
     let digest = sha.as_slice();
-    let device = uploading(alloc, 100, Some(sha), &all[..48])?;
+    let device = uploading(alloc, 100, Some(sha), cut(all, 0, 48))?;
     let wrong = zeros(alloc, 100)?;
     let wrong = wrong.as_slice();
-    let rest = &all[48..];
+    let rest = cut(all, 48, 100);
     check(
         &rt,
         &device,
@@ -266,21 +277,29 @@ fn parts(rt: HostRuntime) -> Result<(), Fail> {
             (part(0, 40, None, rest), offset(48), ""),
             (part(0, 49, None, rest), offset(48), ""),
             (part(0, 40, None, wrong), offset(48), ""),
-            (part(0, 48, None, &rest[..0]), offset(48), ""),
-            (part(0, 48, None, &rest[..3]), offset(48), ""),
-            (part(0, 48, None, &rest[..8]), offset(56), "A"),
-            (part(0, 48, None, &rest[..20]), offset(64), "A"),
-            (part(0, 48, Some(7), &rest[..20]), offset(64), "A"),
-            (part(0, 48, None, &wrong[..53]), error(1, 31), ""),
-            (part(1, 48, None, &wrong[..53]), error(1, 14), ""),
+            (part(0, 48, None, cut(rest, 0, 0)), offset(48), ""),
+            (part(0, 48, None, cut(rest, 0, 3)), offset(48), ""),
+            (part(0, 48, None, cut(rest, 0, 8)), offset(56), "A"),
+            (part(0, 48, None, cut(rest, 0, 20)), offset(64), "A"),
+            (part(0, 48, Some(7), cut(rest, 0, 20)), offset(64), "A"),
+            (part(0, 48, None, cut(wrong, 0, 53)), error(1, 31), ""),
+            (part(1, 48, None, cut(wrong, 0, 53)), error(1, 14), ""),
             (part(0, 48, None, rest), matched(100, true), "A"),
-            (part(0, 48, None, &wrong[..52]), matched(100, false), "AD"),
+            (
+                part(0, 48, None, cut(wrong, 0, 52)),
+                matched(100, false),
+                "AD",
+            ),
             (start(100, digest, all), offset(48), ""),
             (start(100, digest, longer), offset(48), ""),
             (start(100, digest, wrong), error(1, 23), ""),
             (start(101, digest, longer), matched(101, false), "CAD"),
-            (start(100, &wrong[..32], &all[..40]), offset(40), "CA"),
-            (part(0, 0, Some(100), &all[..40]), offset(40), "CA"),
+            (
+                start(100, cut(wrong, 0, 32), cut(all, 0, 40)),
+                offset(40),
+                "CA",
+            ),
+            (part(0, 0, Some(100), cut(all, 0, 40)), offset(40), "CA"),
         ],
     );
     Ok(())
@@ -291,15 +310,15 @@ fn parts_without_a_digest(rt: HostRuntime) -> Result<(), Fail> {
     let alloc = rt.alloc();
     let all = with_magic(alloc, 100)?;
     let all = all.as_slice();
-    let device = uploading(alloc, 100, None, &all[..48])?;
+    let device = uploading(alloc, 100, None, cut(all, 0, 48))?;
     check(
         &rt,
         &device,
         &[
-            (part(0, 0, Some(100), &all[..40]), offset(40), "CA"),
-            (part(0, 48, None, &all[48..]), offset(100), "A"),
-            (part(0, 48, None, &all[..48]), offset(96), "A"),
-            (part(0, 48, None, &all[..53]), error(1, 31), ""),
+            (part(0, 0, Some(100), cut(all, 0, 40)), offset(40), "CA"),
+            (part(0, 48, None, cut(all, 48, 100)), offset(100), "A"),
+            (part(0, 48, None, cut(all, 0, 48)), offset(96), "A"),
+            (part(0, 48, None, cut(all, 0, 53)), error(1, 31), ""),
         ],
     );
     Ok(())
@@ -309,7 +328,7 @@ fn parts_without_a_digest(rt: HostRuntime) -> Result<(), Fail> {
 fn starts_with_nothing_accepted(rt: HostRuntime) -> Result<(), Fail> {
     let alloc = rt.alloc();
     let all = with_magic(alloc, 101)?;
-    let (all, longer) = (&all.as_slice()[..100], &all.as_slice()[..101]);
+    let (all, longer) = (cut(all.as_slice(), 0, 100), cut(all.as_slice(), 0, 101));
     let sha = Sha256::digest(all);
     let digest = sha.as_slice();
     let device = uploading(alloc, 100, Some(sha), b"")?;
@@ -317,11 +336,11 @@ fn starts_with_nothing_accepted(rt: HostRuntime) -> Result<(), Fail> {
         &rt,
         &device,
         &[
-            (start(100, digest, &all[..40]), offset(40), "A"),
+            (start(100, digest, cut(all, 0, 40)), offset(40), "A"),
             (start(100, digest, all), matched(100, true), "A"),
             (start(100, digest, longer), error(1, 31), ""),
             (start(99, digest, all), error(1, 31), ""),
-            (part(0, 0, Some(100), &all[..40]), offset(40), "CA"),
+            (part(0, 0, Some(100), cut(all, 0, 40)), offset(40), "CA"),
             (part(0, 8, None, all), offset(0), ""),
         ],
     );
