@@ -1,11 +1,14 @@
 //! What the plain program answers, by replies and steps that were worked out from the tables and the order of refusals.
 
+mod files;
+mod images;
+mod settings;
+mod uploads;
+
 use crate::{
-    AbstractDevice, Announcement, Counters, Mark, Pairs, PlainStep, Reply, Request, Setting, Side,
-    Sizes, SlotEntry, StoredFile, StoredFiles, Upload, UploadPart, Version, does, is_sound,
-    make_image,
+    AbstractDevice, Counters, Pairs, PlainStep, Reply, Request, Side, Sizes, StoredFiles, does,
+    is_sound,
 };
-use sha2::{Digest, Sha256};
 use smp_edge::Octets;
 use std::alloc::{AllocError, Global};
 use std::process::Abort;
@@ -20,7 +23,7 @@ const SIZES: Sizes = Sizes {
 
 /// A request, its reply, and the kinds of its steps: C chooses an upload, A appends to it, D drops it, M marks slot 1, F
 /// confirms, S saves, and R changes what is running.
-type Case<'a> = (Request<'a>, Reply<'a>, &'a str);
+pub(crate) type Case<'a> = (Request<'a>, Reply<'a>, &'a str);
 
 fn kind_of(step: &PlainStep<'_>) -> u8 {
     match step {
@@ -45,7 +48,7 @@ fn are_of(steps: &[PlainStep<'_>], kinds: &[u8]) -> bool {
         .all(|(step, kind)| kind_of(step) == *kind)
 }
 
-fn check(rt: &impl Abort, device: &AbstractDevice, cases: &[Case<'_>]) {
+pub(crate) fn check(rt: &impl Abort, device: &AbstractDevice, cases: &[Case<'_>]) {
     assert!(rt; is_sound(device));
     for (i, case) in cases.iter().enumerate() {
         let (request, reply, kinds) = case;
@@ -58,12 +61,12 @@ fn check(rt: &impl Abort, device: &AbstractDevice, cases: &[Case<'_>]) {
     }
 }
 
-fn error<'a>(group: u16, number: u32) -> Reply<'a> {
+pub(crate) fn error<'a>(group: u16, number: u32) -> Reply<'a> {
     Reply::GroupError { group, number }
 }
 
 /// A device without anything, whose slot 0 has these bytes.
-fn empty_device(alloc: Global, active: Octets) -> AbstractDevice {
+pub(crate) fn empty_device(alloc: Global, active: Octets) -> AbstractDevice {
     AbstractDevice {
         side: Side {
             active,
@@ -82,8 +85,24 @@ fn empty_device(alloc: Global, active: Octets) -> AbstractDevice {
     }
 }
 
-fn octets(alloc: Global, bytes: &[u8]) -> Result<Octets, AllocError> {
+pub(crate) fn octets(alloc: Global, bytes: &[u8]) -> Result<Octets, AllocError> {
     Octets::from_slice(alloc, bytes)
+}
+
+pub(crate) fn zeros(alloc: Global, count: u32) -> Result<Octets, AllocError> {
+    let mut bytes = Vec::new(alloc);
+    for _ in 0..count {
+        bytes.push(0)?;
+    }
+    Ok(Octets::from_vec(bytes))
+}
+
+/// The bytes from a place up to another.
+pub(crate) fn cut(bytes: &[u8], from: usize, to: usize) -> &[u8] {
+    match bytes.get(from..to) {
+        Some(part) => part,
+        None => b"none",
+    }
 }
 
 #[test]
@@ -107,241 +126,6 @@ fn os_and_statistics(rt: HostRuntime) -> Result<(), Fail> {
             (Request::StatGroup("smp2"), error(2, 2), ""),
             (Request::StatGroup(""), error(2, 2), ""),
             (Request::StatList, Reply::StatList, ""),
-        ],
-    );
-    Ok(())
-}
-
-/// So many bytes that begin with the magic of an image.
-fn with_magic(alloc: Global, count: u8) -> Result<Octets, AllocError> {
-    let mut bytes = Vec::from_slice(alloc, b"\x3d\xb8\xf3\x96")?;
-    for i in 4..count {
-        bytes.push(i)?;
-    }
-    Ok(Octets::from_vec(bytes))
-}
-
-fn zeros(alloc: Global, count: u32) -> Result<Octets, AllocError> {
-    let mut bytes = Vec::new(alloc);
-    for _ in 0..count {
-        bytes.push(0)?;
-    }
-    Ok(Octets::from_vec(bytes))
-}
-
-/// The bytes from a place up to another.
-fn cut(bytes: &[u8], from: usize, to: usize) -> &[u8] {
-    match bytes.get(from..to) {
-        Some(part) => part,
-        None => b"none",
-    }
-}
-
-/// A part of an image, without a digest.
-fn part<'a>(image: u32, off: u32, len: Option<u32>, bytes: &'a [u8]) -> Request<'a> {
-    Request::Upload(UploadPart {
-        image,
-        off,
-        len,
-        sha: None,
-        bytes,
-    })
-}
-
-/// The start of an upload.
-fn start<'a>(len: u32, sha: &'a [u8], bytes: &'a [u8]) -> Request<'a> {
-    Request::Upload(UploadPart {
-        image: 0,
-        off: 0,
-        len: Some(len),
-        sha: Some(sha),
-        bytes,
-    })
-}
-
-fn offset<'a>(off: u32) -> Reply<'a> {
-    Reply::Offset { off, matched: None }
-}
-
-fn matched<'a>(off: u32, matched: bool) -> Reply<'a> {
-    Reply::Offset {
-        off,
-        matched: Some(matched),
-    }
-}
-
-#[test]
-fn refused_starts(rt: HostRuntime) -> Result<(), Fail> {
-    let alloc = rt.alloc();
-    let device = empty_device(alloc, octets(alloc, b"")?);
-    let data = with_magic(alloc, 48)?;
-    let data = data.as_slice();
-    let short = with_magic(alloc, 31)?;
-    let other = zeros(alloc, 33)?;
-    let other = other.as_slice();
-    let (digest, long) = (cut(other, 0, 32), cut(other, 0, 33));
-    let (few, none) = (cut(other, 0, 31), cut(other, 0, 0));
-    let no_length = Request::Upload(UploadPart {
-        image: 0,
-        off: 0,
-        len: None,
-        sha: Some(few),
-        bytes: data,
-    });
-    check(
-        &rt,
-        &device,
-        &[
-            (part(1, 0, Some(48), data), error(1, 14), ""),
-            (part(1, 0, None, data), error(1, 14), ""),
-            (part(1, 8, Some(48), data), error(1, 14), ""),
-            (part(0, 0, None, data), error(1, 21), ""),
-            (part(0, 0, None, few), error(1, 21), ""),
-            (no_length, error(1, 21), ""),
-            (start(48, few, data), error(1, 24), ""),
-            (start(48, long, data), error(1, 24), ""),
-            (start(48, none, data), error(1, 24), ""),
-            (start(7681, few, data), error(1, 24), ""),
-            (start(7681, digest, data), error(1, 30), ""),
-            (part(0, 0, Some(7681), few), error(1, 30), ""),
-            (start(48, digest, short.as_slice()), error(1, 22), ""),
-            (start(16, digest, few), error(1, 22), ""),
-            (start(48, digest, digest), error(1, 23), ""),
-            (start(16, digest, digest), error(1, 23), ""),
-            (start(47, digest, data), error(1, 31), ""),
-            (part(0, 0, Some(0), data), error(1, 31), ""),
-        ],
-    );
-    Ok(())
-}
-
-#[test]
-fn starts(rt: HostRuntime) -> Result<(), Fail> {
-    let alloc = rt.alloc();
-    let device = empty_device(alloc, octets(alloc, b"")?);
-    let data = with_magic(alloc, 48)?;
-    let data = data.as_slice();
-    let odd = cut(data, 0, 36);
-    let digest = Sha256::digest(data);
-    let digest = digest.as_slice();
-    let other = zeros(alloc, 32)?;
-    let other = other.as_slice();
-    check(
-        &rt,
-        &device,
-        &[
-            (start(7680, digest, data), offset(48), "CA"),
-            (part(0, 0, Some(100), data), offset(48), "CA"),
-            (start(100, digest, odd), offset(32), "CA"),
-            (part(0, 0, Some(36), odd), offset(36), "CA"),
-            (part(0, 0, Some(48), data), offset(48), "CA"),
-            (start(48, digest, data), matched(48, true), "CA"),
-            (start(48, other, data), matched(48, false), "CAD"),
-            (part(0, 8, None, data), offset(0), ""),
-            (part(0, 8, Some(7681), other), offset(0), ""),
-        ],
-    );
-    Ok(())
-}
-
-/// A device with an upload and no image in slot 0.
-fn uploading(
-    alloc: Global,
-    length: u32,
-    digest: Option<[u8; 32]>,
-    accepted: &[u8],
-) -> Result<AbstractDevice, AllocError> {
-    let mut device = empty_device(alloc, octets(alloc, b"")?);
-    device.side.upload = Some(Upload {
-        announcement: Announcement { length, digest },
-        accepted: octets(alloc, accepted)?,
-    });
-    Ok(device)
-}
-
-#[test]
-fn parts(rt: HostRuntime) -> Result<(), Fail> {
-    let alloc = rt.alloc();
-    let all = with_magic(alloc, 101)?;
-    let (all, longer) = (cut(all.as_slice(), 0, 100), cut(all.as_slice(), 0, 101));
-    let sha = Sha256::digest(all);
-    let digest = sha.as_slice();
-    let device = uploading(alloc, 100, Some(sha), cut(all, 0, 48))?;
-    let wrong = zeros(alloc, 100)?;
-    let wrong = wrong.as_slice();
-    let rest = cut(all, 48, 100);
-    check(
-        &rt,
-        &device,
-        &[
-            (part(0, 40, None, rest), offset(48), ""),
-            (part(0, 49, None, rest), offset(48), ""),
-            (part(0, 40, None, wrong), offset(48), ""),
-            (part(0, 48, None, cut(rest, 0, 0)), offset(48), ""),
-            (part(0, 48, None, cut(rest, 0, 3)), offset(48), ""),
-            (part(0, 48, None, cut(rest, 0, 8)), offset(56), "A"),
-            (part(0, 48, None, cut(rest, 0, 20)), offset(64), "A"),
-            (part(0, 48, Some(7), cut(rest, 0, 20)), offset(64), "A"),
-            (part(0, 48, None, cut(wrong, 0, 53)), error(1, 31), ""),
-            (part(1, 48, None, cut(wrong, 0, 53)), error(1, 14), ""),
-            (part(0, 48, None, rest), matched(100, true), "A"),
-            (
-                part(0, 48, None, cut(wrong, 0, 52)),
-                matched(100, false),
-                "AD",
-            ),
-            (start(100, digest, all), offset(48), ""),
-            (start(100, digest, longer), offset(48), ""),
-            (start(100, digest, wrong), error(1, 23), ""),
-            (start(101, digest, longer), matched(101, false), "CAD"),
-            (
-                start(100, cut(wrong, 0, 32), cut(all, 0, 40)),
-                offset(40),
-                "CA",
-            ),
-            (part(0, 0, Some(100), cut(all, 0, 40)), offset(40), "CA"),
-        ],
-    );
-    Ok(())
-}
-
-#[test]
-fn parts_without_a_digest(rt: HostRuntime) -> Result<(), Fail> {
-    let alloc = rt.alloc();
-    let all = with_magic(alloc, 100)?;
-    let all = all.as_slice();
-    let device = uploading(alloc, 100, None, cut(all, 0, 48))?;
-    check(
-        &rt,
-        &device,
-        &[
-            (part(0, 0, Some(100), cut(all, 0, 40)), offset(40), "CA"),
-            (part(0, 48, None, cut(all, 48, 100)), offset(100), "A"),
-            (part(0, 48, None, cut(all, 0, 48)), offset(96), "A"),
-            (part(0, 48, None, cut(all, 0, 53)), error(1, 31), ""),
-        ],
-    );
-    Ok(())
-}
-
-#[test]
-fn starts_with_nothing_accepted(rt: HostRuntime) -> Result<(), Fail> {
-    let alloc = rt.alloc();
-    let all = with_magic(alloc, 101)?;
-    let (all, longer) = (cut(all.as_slice(), 0, 100), cut(all.as_slice(), 0, 101));
-    let sha = Sha256::digest(all);
-    let digest = sha.as_slice();
-    let device = uploading(alloc, 100, Some(sha), b"")?;
-    check(
-        &rt,
-        &device,
-        &[
-            (start(100, digest, cut(all, 0, 40)), offset(40), "A"),
-            (start(100, digest, all), matched(100, true), "A"),
-            (start(100, digest, longer), error(1, 31), ""),
-            (start(99, digest, all), error(1, 31), ""),
-            (part(0, 0, Some(100), cut(all, 0, 40)), offset(40), "CA"),
-            (part(0, 8, None, all), offset(0), ""),
         ],
     );
     Ok(())
