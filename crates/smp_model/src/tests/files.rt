@@ -2,7 +2,7 @@
 
 use crate::tests::settings::text;
 use crate::tests::uploads::offset;
-use crate::tests::{check, empty_device, error, octets, zeros};
+use crate::tests::{check, cut, empty_device, error, octets, zeros};
 use crate::{AbstractDevice, Reply, Request, StoredFile, StoredFiles};
 use std::alloc::{AllocError, Global};
 use std::test::Fail;
@@ -59,13 +59,11 @@ fn with_files(alloc: Global, others: u8) -> Result<AbstractDevice, AllocError> {
 }
 
 #[test]
-fn written(rt: HostRuntime) -> Result<(), Fail> {
+fn names(rt: HostRuntime) -> Result<(), Fail> {
     let alloc = rt.alloc();
     let device = with_files(alloc, 0)?;
-    let (longest, long) = (text(alloc, 'a', 64)?, text(alloc, 'a', 65)?);
-    let (longest, long) = (longest.as_str(), long.as_str());
-    let many = zeros(alloc, 16386)?;
-    let many = many.as_slice();
+    let long = text(alloc, 'a', 65)?;
+    let long = long.as_str();
     check(
         &rt,
         &device,
@@ -73,23 +71,64 @@ fn written(rt: HostRuntime) -> Result<(), Fail> {
             (write("", 0, None, b"abc"), error(8, 2), ""),
             (write(long, 0, Some(16385), b""), error(8, 2), ""),
             (write(long, 3, None, b""), error(8, 2), ""),
-            (write("n", 0, None, b"abc"), Reply::SmpError(3), ""),
-            (write("a", 0, None, b""), Reply::SmpError(3), ""),
-            (write("n", 0, Some(16385), b""), error(8, 65), ""),
-            (write("n", 0, Some(16385), many), error(8, 65), ""),
-            (write("n", 0, Some(2), b"abc"), error(8, 12), ""),
-            (write("n", 0, Some(3), b"abc"), offset(3), "R"),
-            (write("n", 0, Some(16384), b""), offset(0), "R"),
+        ],
+    );
+    let longest = text(alloc, 'a', 64)?;
+    let longest = longest.as_str();
+    check(
+        &rt,
+        &device,
+        &[
             (write(longest, 0, Some(3), b"abc"), offset(3), "R"),
-            (write("a", 0, Some(2), b"z"), offset(1), "R"),
-            (write("n", 3, None, b"abc"), error(8, 3), ""),
+            (write(longest, 3, Some(3), b"abc"), error(8, 3), ""),
+        ],
+    );
+    Ok(())
+}
+
+#[test]
+fn begun(rt: HostRuntime) -> Result<(), Fail> {
+    let alloc = rt.alloc();
+    let device = with_files(alloc, 0)?;
+    let many = zeros(alloc, 16386)?;
+    let many = many.as_slice();
+    let three = cut(many, 0, 3);
+    let none = cut(many, 0, 0);
+    check(
+        &rt,
+        &device,
+        &[
+            (write("n", 0, None, three), Reply::SmpError(3), ""),
+            (write("a", 0, None, none), Reply::SmpError(3), ""),
+            (write("n", 0, Some(16385), none), error(8, 65), ""),
+            (write("n", 0, Some(16385), many), error(8, 65), ""),
+            (write("n", 0, Some(2), three), error(8, 12), ""),
+            (write("n", 0, Some(3), three), offset(3), "R"),
+            (write("n", 0, Some(16384), none), offset(0), "R"),
+            (write("a", 0, Some(4), three), offset(3), "R"),
+        ],
+    );
+    Ok(())
+}
+
+#[test]
+fn continued(rt: HostRuntime) -> Result<(), Fail> {
+    let alloc = rt.alloc();
+    let device = with_files(alloc, 0)?;
+    let many = zeros(alloc, 16386)?;
+    let many = many.as_slice();
+    check(
+        &rt,
+        &device,
+        &[
+            (write("n", 3, None, cut(many, 0, 3)), error(8, 3), ""),
             (write("n", 3, Some(16385), many), error(8, 3), ""),
-            (write("a", 2, None, b"d"), offset(3), ""),
+            (write("a", 2, None, cut(many, 0, 1)), offset(3), ""),
             (write("a", 4, None, many), offset(3), ""),
-            (write("a", 3, None, b"def"), error(8, 12), ""),
-            (write("a", 3, None, b"de"), offset(5), "R"),
-            (write("a", 3, Some(2), b"d"), offset(4), "R"),
-            (write("a", 3, None, b""), offset(3), "R"),
+            (write("a", 3, None, cut(many, 0, 3)), error(8, 12), ""),
+            (write("a", 3, None, cut(many, 0, 2)), offset(5), "R"),
+            (write("a", 3, Some(2), cut(many, 0, 1)), offset(4), "R"),
+            (write("a", 3, None, cut(many, 0, 0)), offset(3), "R"),
         ],
     );
     Ok(())

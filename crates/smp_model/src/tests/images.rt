@@ -1,7 +1,7 @@
 //! Lists of images, marks and erases.
 
 use crate::tests::uploads::{offset, part, start, uploading, with_magic};
-use crate::tests::{check, cut, error};
+use crate::tests::{check, cut, error, zeros};
 use crate::{AbstractDevice, Mark, Reply, Request, SlotEntry, Version, make_image};
 use sha2::{Digest, Sha256};
 use smp_edge::Octets;
@@ -100,32 +100,59 @@ fn marks(rt: HostRuntime) -> Result<(), Fail> {
     let alloc = rt.alloc();
     let (old, new) = (image(alloc, 1)?, image(alloc, 2)?);
     let (old_hash, new_hash) = (hash_of(&old), hash_of(&new));
-    let (zero, short) = (&[0u8; 32], &[0u8; 31]);
     let first = first_entry(old_hash, false);
-    let confirmed = first_entry(old_hash, true);
-    let second = second_entry(new_hash, None);
+    let confirmed = two(first_entry(old_hash, true), second_entry(new_hash, None));
     let test = two(first, second_entry(new_hash, Some(Mark::Test)));
     let permanent = two(first, second_entry(new_hash, Some(Mark::Permanent)));
+    let list = two(first, second_entry(new_hash, None));
     let device = with_two(alloc, old, &new, None)?;
     check(
         &rt,
         &device,
         &[
-            (Request::ImageList, two(first, second), ""),
+            (Request::ImageList, list, ""),
             (set(&new_hash, false), test, "M"),
             (set(&new_hash, true), permanent, "M"),
-            (set(&old_hash, true), two(confirmed, second), "F"),
-            (set_none(true), two(confirmed, second), "F"),
-            (set(b"", true), two(confirmed, second), "F"),
+        ],
+    );
+    check(
+        &rt,
+        &device,
+        &[
+            (set(&old_hash, true), confirmed, "F"),
             (set(&old_hash, false), error(1, 33), ""),
-            (set(zero, false), error(1, 8), ""),
-            (set(zero, true), error(1, 8), ""),
-            (set(short, false), error(1, 24), ""),
-            (set(b"\x01", true), error(1, 24), ""),
+            (set_none(true), confirmed, "F"),
             (set_none(false), Reply::SmpError(3), ""),
-            (set(b"", false), Reply::SmpError(3), ""),
             (Request::Erase { slot: 1 }, Reply::Empty, "D"),
             (Request::Erase { slot: 2 }, error(1, 14), ""),
+        ],
+    );
+    Ok(())
+}
+
+#[test]
+fn other_hashes(rt: HostRuntime) -> Result<(), Fail> {
+    let alloc = rt.alloc();
+    let (old, new) = (image(alloc, 1)?, image(alloc, 2)?);
+    let confirmed = two(
+        first_entry(hash_of(&old), true),
+        second_entry(hash_of(&new), None),
+    );
+    let zeros = zeros(alloc, 33)?;
+    let zeros = zeros.as_slice();
+    let (zero, none) = (cut(zeros, 0, 32), cut(zeros, 0, 0));
+    let device = with_two(alloc, old, &new, None)?;
+    check(
+        &rt,
+        &device,
+        &[
+            (set(none, true), confirmed, "F"),
+            (set(none, false), Reply::SmpError(3), ""),
+            (set(zero, false), error(1, 8), ""),
+            (set(zero, true), error(1, 8), ""),
+            (set(cut(zeros, 0, 31), false), error(1, 24), ""),
+            (set(zeros, true), error(1, 24), ""),
+            (set(cut(zeros, 0, 1), true), error(1, 24), ""),
         ],
     );
     Ok(())
