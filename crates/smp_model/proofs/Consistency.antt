@@ -246,7 +246,7 @@ still_steps sizes (Save ∷ steps) u h = still_steps sizes steps u h.1
 still_steps sizes (Run c ∷ steps) u h = still_steps sizes steps u h.1
 
 -- the kept bytes: at most those that came, and the rest of the upload or whole write units
-kept_fewer : (unit size offset : ℕ) (bytes : List ℕ) → length (kept unit size offset bytes) ≤ length bytes
+pub kept_fewer : (unit size offset : ℕ) (bytes : List ℕ) → length (kept unit size offset bytes) ≤ length bytes
 kept_fewer unit size offset bytes =
     by_if (λ (b : List ℕ). length b ≤ length bytes) (offset + length bytes == size) bytes (take (unit * (length bytes / unit)) bytes)
     (λ e. omega arith)

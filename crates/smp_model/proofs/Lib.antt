@@ -3,6 +3,7 @@ pub mod Keys
 pub mod StoredSize
 pub mod PlainImage
 pub mod Copies
+mod Sound
 pub mod Tlvs
 pub mod Made
 mod Cases

@@ -89,3 +89,11 @@ is_kept kepts.All own = true
 is_kept (kepts.Before name) own = comes_before own name.now
 is_kept (kepts.Behind name) own = comes_before name.now own
 is_kept (kepts.Others name) own = not (bytes_eq own name.now)
+
+-- the settings have a stored form that is bytes: each length that stands in it fits a byte
+abbrev pub HasByteLengths : Setting → Type 0
+HasByteLengths s = (length s.name < 256) × (length s.val < 256)
+
+pub record AreStorable (settings : List Setting) : Type 0 where
+  pub count : length settings < 256
+  pub lengths : All HasByteLengths settings

@@ -21,6 +21,7 @@ mod plain;
 mod plain_files;
 mod plain_image;
 mod plain_images;
+mod plain_laws;
 mod plain_settings;
 mod plain_steps;
 mod plain_uploads;
@@ -42,9 +43,14 @@ pub use laws::{
     settling_is_done_once, stored_settings_are_read_back, the_next_part_is_kept,
 };
 pub use packet::set_length;
-pub use plain::{PlainChange, PlainResponse, PlainStep, does};
+pub use plain::{PlainChange, PlainResponse, PlainStep, does, is_sound};
+pub use plain_laws::devices_stay_sound;
+pub use plain_settings::{are_storable, stored_form};
 pub use plain_steps::{after, start};
 pub use reply::{Reply, SlotEntry, Version};
 pub use request::{Request, UploadPart};
 pub use setting::{Pairs, Setting};
 pub use upload::{Announcement, Ending, Mark};
+
+#[cfg(test)]
+mod tests;

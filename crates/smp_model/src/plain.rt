@@ -1,7 +1,8 @@
 //! The abstract device as a plain program, for tests alone: it computes in memory what the definitions say, slowly and
 //! with copies.
 
-ghost use Rattle.std.specs.Prelude.{◌≡◌, ◌≤◌, ◌<◌, ◌+◌, [], ◌∷◌, length};
+ghost use Rattle.std.specs.Prelude.{◌≡◌, ◌≤◌, ◌<◌, ◌+◌, ◌↔◌, [], ◌∷◌, length, IfSome, IsTrue};
+ghost use Rattle.std.specs.List.{All};
 ghost use Rattle.smp_model.specs.Counters.{stat_group_reply};
 ghost use Rattle.smp_model.specs.Does.{does};
 ghost use Rattle.smp_model.specs.Meant.{meant_of};
@@ -15,7 +16,9 @@ use crate::plain_settings::{
     deletes_setting, loads_settings, reads_setting, saves_settings, writes_setting,
 };
 use crate::plain_uploads::uploads;
-use crate::{AbstractDevice, Announcement, Counters, Mark, Reply, Request, Sizes};
+use crate::{
+    AbstractDevice, Announcement, Counters, Mark, Reply, Request, Sizes, StoredFile, Upload,
+};
 use arrayvec::ArrayVec;
 
 /// A change of what is lost at a start.
@@ -168,4 +171,35 @@ pub fn does<'a>(
         Request::FileTypes => replied(Reply::FileTypes),
         Request::FileClose => replied(Reply::Empty),
     }
+}
+
+fn fits_upload(upload: &Option<Upload>) -> bool
+    ensures { IsTrue result ↔ IfSome upload.now (λ u. length u.accepted ≤ u.announcement.length) }
+{
+    match upload {
+        None => true,
+        Some(upload) => upload.accepted.as_slice().len() <= upload.announcement.length as usize,
+    }
+}
+
+fn fits_file(file: &StoredFile) -> bool
+    ensures { IsTrue result ↔ (length file.now.held ≤ file.now.announced) }
+{
+    file.held.as_slice().len() <= file.announced as usize
+}
+
+fn fit_files(files: &[StoredFile]) -> bool
+    ensures { IsTrue result ↔ All (λ f. length f.held ≤ f.announced) files.now }
+{
+    files.iter().all(|f| fits_file(f))
+}
+
+/// The numbers that the device has to answer fit their types, which [`does`] asks for.
+pub fn is_sound(device: &AbstractDevice) -> bool
+    ensures { IsTrue result ↔ IsSound device.now }
+{
+    let active = device.side.active.as_slice().len() <= 0xffff_ffff;
+    let upload = fits_upload(&device.side.upload);
+    let files = fit_files(device.files.as_slice());
+    active && upload && files
 }

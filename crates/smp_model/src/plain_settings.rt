@@ -1,13 +1,16 @@
 //! The plain program at group 3, settings.
 
-ghost use Rattle.std.specs.Prelude.{◌≡◌, ◌+◌, ◌-◌, ◌^◌, length, min, take, option_map, if◌then◌else◌};
+ghost use Rattle.std.specs.Prelude.{◌≡◌, ◌+◌, ◌-◌, ◌^◌, length, min, take, option_map, if◌then◌else◌, ◌<◌, ◌↔◌, ◌∷◌, ◌++◌, IfOk, OnOk, IsTrue};
+ghost use Rattle.std.specs.List.{All};
 ghost use Rattle.smp_model.specs.Named.{comes_before};
 ghost use Rattle.smp_model.specs.Settings.{value_of, is_setting_name, is_setting_value, is_full, stored_form, stored_setting, written_setting};
 ghost use Rattle.smp_model.specs.SettingsGroup.{refuses_setting, at_most, reads_setting, writes_setting, deletes_setting, loads_settings, saves_settings};
-ghost use Rattle.smp_model.specs.Plain.{response_of, size_beside};
+ghost use Rattle.smp_model.specs.Plain.{response_of, size_beside, HasByteLengths, AreStorable};
 
 use crate::plain::{PlainChange, PlainResponse, PlainStep, refused, replied, responded};
 use crate::{Reply, Setting};
+use smp_edge::Octets;
+use std::alloc::{AllocError, Global};
 use std::cmp::Ordering;
 
 /// The group.
@@ -183,4 +186,53 @@ pub(crate) fn saves_settings<'a>() -> PlainResponse<'a>
     ensures { response_of result ≡ saves_settings }
 {
     responded(Reply::Empty, PlainStep::Save)
+}
+
+fn has_byte_lengths(setting: &Setting) -> bool
+    ensures { IsTrue result ↔ HasByteLengths setting.now }
+{
+    setting.name.as_slice().len() < 256 && setting.val.as_slice().len() < 256
+}
+
+fn have_byte_lengths(settings: &[Setting]) -> bool
+    ensures { IsTrue result ↔ All HasByteLengths settings.now }
+{
+    settings.iter().all(|s| has_byte_lengths(s))
+}
+
+/// The settings have a stored form: there are fewer than 256, and each name and value has fewer bytes than that.
+pub fn are_storable(settings: &[Setting]) -> bool
+    ensures { IsTrue result ↔ AreStorable settings.now }
+{
+    settings.len() < 256 && have_byte_lengths(settings)
+}
+
+/// Adds bytes behind their length.
+fn add_counted(form: &mut Vec<u8>, bytes: &[u8]) -> Result<(), AllocError>
+    requires { length bytes.now < 256 }
+    ensures { OnOk result (form.new.items ≡ form.old.items ++ length bytes.now ∷ bytes.now) }
+{
+    form.push(bytes.len() as u8)?;
+    form.extend_from_slice(bytes)?;
+    Ok(())
+}
+
+fn add_stored(form: &mut Vec<u8>, setting: &Setting) -> Result<(), AllocError>
+    requires { HasByteLengths setting.now }
+    ensures { OnOk result (form.new.items ≡ form.old.items ++ stored_setting setting.now) }
+{
+    add_counted(form, setting.name.as_slice())?;
+    add_counted(form, setting.val.as_slice())
+}
+
+/// The stored form of settings. It fails only for want of memory.
+pub fn stored_form(alloc: Global, settings: &[Setting]) -> Result<Octets, AllocError>
+    requires { AreStorable settings.now }
+    ensures { IfOk result (λ form. form ≡ stored_form settings.now) }
+{
+    let mut form = Vec::from_slice(alloc, &[1, settings.len() as u8])?;
+    for setting in settings {
+        add_stored(&mut form, setting)?;
+    }
+    Ok(Octets::from_vec(form))
 }
