@@ -4,3 +4,4 @@ pub mod Texts
 pub mod Putting
 pub mod Endings
 pub mod Room
+mod Abstractly

@@ -4,7 +4,8 @@ use Rattle.std.specs.Io.KnownBytes.{append_known}
 use Rattle.std.proofs.lemmas.List.{take-append-drop, take_more, take_all}
 use Rattle.smp_edge.specs.Sink.{AppendsFront}
 use Rattle.smp_app.specs.Gathering.{PutOn}
-use Rattle.smp_model.specs.Counters.{Counters, no_counters}
+use Rattle.smp_model.specs.declared.device.Counters.{Counters}
+use Rattle.smp_model.specs.Counters.{no_counters}
 use Rattle.smp_app.specs.Device.{handled}
 use Rattle.smp_app.specs.Transcript.{line_of, event_lines, counters_after, last_line, transcript}
 

@@ -1,14 +1,13 @@
 -- Each reply of the OS and statistics groups can be sent, and has room in a packet.
-use Rattle.std.proofs.Common.{◌≡◌, ℕ, ◌+◌, ◌≤◌, Bool, true, false, List, length, Option, Some, None, refl, sym, ap, subst, arith}
+use Rattle.std.proofs.Common.{◌≡◌, ℕ, ◌+◌, ◌≤◌, Bool, true, false, List, Some, refl, subst, arith}
 use Rattle.std.specs.Prelude.{codes}
 use Rattle.std.specs.Str.{bytes_eq}
 use Rattle.smp_model.specs.Meant.{Meant, echo, reset, parameters, stat_group, stat_list}
 use Rattle.smp_model.specs.Said as said
 use Rattle.smp_model.specs.Said.{Said}
-use Rattle.smp_model.specs.Counters.{Counters, os_reply, stat_group_reply}
+use Rattle.smp_model.specs.declared.device.Counters.{Counters}
+use Rattle.smp_model.specs.Counters.{os_reply, stat_group_reply}
 use Rattle.smp_request.specs.Room.{HasRoom}
-use Rattle.smp_reply.specs.Room.{room_of}
-use Rattle.smp_reply.specs.Sendable.{IsSendable}
 use Rattle.smp_app.specs.Device.{Fitting}
 
 short : {s : Said} (r : Said) → Some r ≡ Some s → Fitting r → Fitting s

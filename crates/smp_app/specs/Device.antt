@@ -1,12 +1,13 @@
 -- What the device does with a packet that comes in: it answers or drops it, and counts.
-use Rattle.std.specs.Prelude.{Bool, ◌==◌, ◌||◌, ◌≤◌, ℕ, if◌then◌else◌, List, Option, Some, None, Result, Ok, Err, unwrap_or}
+use Rattle.std.specs.Prelude.{◌≤◌, ℕ, if◌then◌else◌, List, Option, Some, None, Result, Ok, Err, unwrap_or}
 use Rattle.smp_header.specs.Message.{Message, packet}
 use Rattle.smp_reply.specs.Room.{room_of}
 use Rattle.smp_reply.specs.Sendable.{IsSendable}
 use Rattle.smp_model.specs.Meant.{Meant, reset}
 use Rattle.smp_model.specs.Meaning.{meaning, not_supported}
 use Rattle.smp_model.specs.Said.{Said, smp_error, is_error, reply_bytes}
-use Rattle.smp_model.specs.Counters.{Counters, after_reply, after_drop, os_reply}
+use Rattle.smp_model.specs.declared.device.Counters.{Counters}
+use Rattle.smp_model.specs.Counters.{after_reply, after_drop, os_reply}
 pub use Rattle.smp_model.specs.Handled.{is_request}
 
 -- The reply to a request, with the counters before it. What is not built yet is not supported: a reset, and the groups

@@ -1,8 +1,9 @@
 -- What a replay prints.
-use Rattle.std.specs.Prelude.{ℕ, List, [], ◌∷◌, ◌++◌, Option, codes}
+use Rattle.std.specs.Prelude.{ℕ, List, [], ◌∷◌, ◌++◌, codes}
 use Rattle.std.specs.Option.{option_map_or}
 use Rattle.hex.specs.Hex.{encode_lower}
-use Rattle.smp_model.specs.Counters.{Counters, no_counters}
+use Rattle.smp_model.specs.declared.device.Counters.{Counters}
+use Rattle.smp_model.specs.Counters.{no_counters}
 use Rattle.smp_app.specs.Device.{handled}
 
 -- A line of these characters.

@@ -8,12 +8,14 @@
 
 mod command;
 mod device;
+mod laws;
 mod replay;
 mod schedule;
 mod status;
 mod words;
 
 pub use command::run;
+pub use laws::agrees_with_the_abstract_device;
 pub use status::Status;
 
 #[cfg(test)]

@@ -1,5 +1,5 @@
 use Rattle.std.proofs.Common.{◌≡◌, ◌+◌, ◌++◌, ℕ, List, sym, ap, ◌∙◌}
-use Rattle.smp_model.specs.Counters.{Counters}
+use Rattle.smp_model.specs.declared.device.Counters.{Counters}
 use Rattle.smp_groups.specs.Counters.{counters_of}
 use Rattle.smp_app.specs.Device.{handled}
 use Rattle.smp_app.specs.Transcript.{line_of}
