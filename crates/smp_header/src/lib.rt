@@ -10,8 +10,8 @@
 //! ```
 //!
 //! Operations are 0 read, 1 read response, 2 write and 3 write response. Version bits 0 stand for
-//! version 1 of the protocol, bits 1 for version 2. The reserved bits and the flags may hold anything
-//! when read, and are 0 when written.
+//! version 1 of the protocol, bits 1 for version 2. Reading looks at neither the reserved bits nor the
+//! flags; both are written as 0.
 #![tactic(auto)]
 
 mod reading;
