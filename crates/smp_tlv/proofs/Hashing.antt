@@ -42,9 +42,3 @@ image_is_bad None i digest other is right = tt
 image_is_bad (Some held) i digest other is right =
     let e : bytes_eq i.hash (sha256 (take i.covered held)) ≡ false = other_bytes i.hash (sha256 (take i.covered held)) (λ same. other (right ∙ sym same)) in
     ap (if_hashed held) is ∙ rw e refl
-
-pub bytes_are_same : (a b : List ℕ) → bytes_eq a b ≡ true → a ≡ b
-bytes_are_same a b e = grind (arith, common_steps, bytes_eq-Decides)
-
-pub bytes_are_other : (a b : List ℕ) → bytes_eq a b ≡ false → a ≢ b
-bytes_are_other a b e = grind (arith, common_steps, bytes_eq-Decides)

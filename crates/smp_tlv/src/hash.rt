@@ -1,5 +1,5 @@
 // The hash of an image.
-ghost use Rattle.std.specs.Prelude.{◌≡◌, ◌≢◌, ◌+◌, ◌<◌, ◌≤◌, length, take, Some, None, IfOk, IfErr, IfSome, OnOk};
+ghost use Rattle.std.specs.Prelude.{◌≡◌, ◌≢◌, ◌+◌, ◌<◌, ◌≤◌, length, take, Some, None, IfOk, IfErr, IfSome, OnOk, OnErr};
 ghost use Rattle.sha2.specs.Hashers.{Holds256};
 ghost use Rattle.sha2.specs.Sha256.{sha256};
 ghost use Rattle.smp_flash.specs.State.{end_of};
@@ -51,6 +51,19 @@ fn digest_of<B: Bytes>(b: &mut B, size: u32, block: &mut [u8]) -> Result<[u8; 32
     Ok(sum.finalize())
 }
 
+/// Compares the hash that an image states with the SHA-256 of its covered bytes.
+fn compare(digest: [u8; 32], info: &ImageInfo) -> Result<(), ImageFault>
+    ensures right { OnOk result (digest ≡ info.now.hash) }
+    ensures wrong { OnErr result (digest ≢ info.now.hash) }
+    ensures kind { IfErr result (λ fault. fault ≡ WrongHash) }
+{
+    if digest == info.hash {
+        Ok(())
+    } else {
+        Err(ImageFault::WrongHash)
+    }
+}
+
 /// Checks that the hash that an image states is the SHA-256 of its covered bytes, which are read once, in blocks.
 ///
 /// `info` is what `read_image` gives of the bytes. It answers `WrongHash` where the hash is another one; `Fault` and `Off`
@@ -67,13 +80,7 @@ pub fn check_hash<B: Bytes>(b: &mut B, info: &ImageInfo) -> Result<(), ImageFaul
 {
     let mut block = [0; BLOCK];
     match digest_of(b, info.covered, &mut block) {
-        Ok(digest) => {
-            if digest == info.hash {
-                Ok(())
-            } else {
-                Err(ImageFault::WrongHash)
-            }
-        }
+        Ok(digest) => compare(digest, info),
         Err(fault) => Err(passed_on(fault)),
     }
 }

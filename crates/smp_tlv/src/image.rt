@@ -1,5 +1,5 @@
 // An image from its bytes.
-ghost use Rattle.std.specs.Prelude.{◌≡◌, ◌↔◌, ◌+◌, ◌<◌, ◌≤◌, IfOk, IfErr, IfSome, Err};
+ghost use Rattle.std.specs.Prelude.{◌≡◌, IfOk, IfErr, IfSome};
 ghost use Rattle.smp_flash.specs.Calls.{ReadsAtMost};
 ghost use Rattle.smp_flash.specs.State.{end_of};
 ghost use Rattle.smp_flash.specs.State.End.{Went};

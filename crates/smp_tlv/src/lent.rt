@@ -1,5 +1,5 @@
 // Bytes that are lent.
-ghost use Rattle.std.specs.Prelude.{◌≡◌, ◌+◌, ◌≤◌, length, OnOk, IfSome, Some};
+ghost use Rattle.std.specs.Prelude.{◌≡◌, ◌+◌, ◌≤◌, length, OnOk, IfSome};
 ghost use Rattle.smp_flash.specs.Area.{area};
 ghost use Rattle.smp_flash.specs.State.{end_of};
 ghost use Rattle.smp_flash.specs.State.End.{Went};
@@ -30,7 +30,7 @@ impl<'a> Lent<'a> {
 
 impl Bytes for Lent<'_> {
     ghost use Rattle.std.specs.Prelude.{refl};
-    ghost use Rattle.smp_tlv.specs.Lent.{lent_bytes, lent_state};
+    ghost use Rattle.smp_tlv.specs.Lent.{lent_state};
 
     ghost state = { lent_state };
 

@@ -1,11 +1,7 @@
 //! Images of the table of single changes, further images by their parts, and failing reads. Expected values were worked out
 //! by a reader of its own, from the layout of an image.
 
-ghost use Rattle.std.specs.Prelude.{◌≡◌, ◌+◌, ◌≤◌, length, [], Some, None, OnOk, IfSome, refl};
-ghost use Rattle.smp_flash.specs.Area.{area};
-ghost use Rattle.smp_flash.specs.State.{end_of};
-ghost use Rattle.smp_flash.specs.declared.flash.Operation.TheVariants.{Read};
-ghost use Rattle.smp_tlv.specs.State.{Looks};
+ghost use Rattle.std.specs.Prelude.{◌≤◌, length, [], Some, None, refl};
 
 use super::*;
 use smp_flash::FlashFault;
