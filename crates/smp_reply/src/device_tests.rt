@@ -7,6 +7,8 @@ ghost use Rattle.smp_model.specs.Said.{said_of};
 ghost use Rattle.smp_reply.specs.Room.{room_of};
 ghost use Rattle.smp_reply.specs.Sendable.{IsSendable};
 
+mod data;
+mod images;
 mod uploads;
 
 use crate::{fits_within, write_reply};
@@ -147,7 +149,7 @@ fn header(sequence: u8, request: &Request<'_>, count: usize) -> [u8; 8] {
 pub(crate) type Turn<'a> = (Request<'a>, &'a [u8], usize);
 
 /// The device after a request, whose reply is checked byte by byte.
-pub(crate) fn turn<'a>(
+fn turn<'a>(
     rt: &impl Abort,
     alloc: Global,
     device: &'a AbstractDevice,
@@ -164,4 +166,18 @@ pub(crate) fn turn<'a>(
     assert!(rt; cut(packet, 8, packet.len()) == *data, "{request:?}");
     assert_eq!(rt; response.steps.len(), *steps, "{request:?}");
     after(alloc, device, &response)
+}
+
+/// The device after these requests, in their order.
+pub(crate) fn turns(
+    rt: &impl Abort,
+    alloc: Global,
+    device: AbstractDevice,
+    dues: &[Turn<'_>],
+) -> Result<AbstractDevice, AllocError> {
+    let mut now = device;
+    for due in dues {
+        now = turn(rt, alloc, &now, due)?;
+    }
+    Ok(now)
 }
