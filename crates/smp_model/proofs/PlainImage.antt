@@ -87,4 +87,5 @@ pub image_of_long : (b : List ℕ) (h : ImageHeader) → 32 ≤ length b → h �
 unfolding image_of
 image_of_long b h long is =
     let e : nat_le 32 (length b) ≡ true = grind (arith, nat_tests, long) in
-    rw (e, is) refl
+    let same = ap (λ (g : ImageHeader). with_header g b) is in
+    rw e same

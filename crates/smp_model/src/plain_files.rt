@@ -43,9 +43,8 @@ pub(crate) fn sha256_of(bytes: &[u8]) -> [u8; 32]
 
 /// The file of a name.
 pub(crate) fn file_of<'a>(files: &'a [StoredFile], name: &str) -> Option<&'a StoredFile>
-    requires sound { All (λ f. length f.held ≤ f.announced) files.now }
     ensures value { option_map (λ f. f.now) result ≡ file_of name.now files.now }
-    ensures sound { IfSome result (λ f. length f.now.held ≤ f.now.announced) }
+    ensures sound { All (λ f. length f.held ≤ f.announced) files.now → IfSome result (λ f. length f.now.held ≤ f.now.announced) }
     ensures named { IfSome result (λ f. f.now.name ≡ name.now) }
 {
     files.iter().find(|f| f.name.as_slice() == name.as_bytes())

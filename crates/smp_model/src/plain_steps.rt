@@ -1,7 +1,7 @@
 //! The plain program's devices: what steps make of one, and a start. Each is a copy, and what it was made of stays as it
 //! was.
 
-ghost use Rattle.std.specs.Prelude.{◌≡◌, [], ◌∷◌, ◌++◌, filter, map as each, option_map, if◌then◌else◌, IfOk, OnOk};
+ghost use Rattle.std.specs.Prelude.{◌≡◌, [], ◌∷◌, ◌++◌, filter, map as each, if◌then◌else◌, IfOk, OnOk};
 ghost use Rattle.smp_model.specs.Said.{said_of, is_error};
 ghost use Rattle.smp_model.specs.Settings.{setting, written_setting, deleted_setting};
 ghost use Rattle.smp_model.specs.Files.{stored_file, lengthened, file_of};
@@ -10,6 +10,7 @@ ghost use Rattle.smp_model.specs.Response.{after};
 ghost use Rattle.smp_model.specs.Plain.{change_of, step_of, response_of, is_kept};
 
 use crate::plain::{PlainChange, PlainResponse, PlainStep};
+use crate::plain_files::file_of;
 use crate::plain_settings::precedes;
 use crate::plain_uploads::is_spoiled;
 use crate::{
@@ -201,19 +202,13 @@ fn lengthened(
 ) -> Result<StoredFiles, AllocError>
     ensures { IfOk result (λ all. all ≡ lengthened part.now (file_of name.now files.now) files.now) }
 {
-    match find_file(files, name) {
+    match file_of(files, name) {
         None => copied_files(alloc, files),
         Some(file) => {
             let held = joined(alloc, file.held.as_slice(), part)?;
             stored_file(alloc, files, file.name.as_slice(), file.announced, held)
         }
     }
-}
-
-fn find_file<'a>(files: &'a [StoredFile], name: &str) -> Option<&'a StoredFile>
-    ensures { option_map (λ f. f.now) result ≡ file_of name.now files.now }
-{
-    files.iter().find(|f| f.name.as_slice() == name.as_bytes())
 }
 
 fn with_running(device: AbstractDevice, running: Pairs) -> AbstractDevice
