@@ -18,7 +18,7 @@ use Rattle.smp_model.specs.Consistent.{is_file, are_files, FitsSlot, FitsUpload,
 use Rattle.smp_model.specs.Does.{does}
 use Rattle.smp_model.specs.FileGroup.{if_file, about_file, reads_held, reads_file, is_sha256, hashes_held, hashes_file, tells_length, is_no_free_file, begins_file, continues_file, writes_file}
 use Rattle.smp_model.specs.Files.{is_file_name, longest_file, file_of, stored_file, lengthened}
-use Rattle.smp_model.specs.ImageGroup.{completes, keeps, takes_part, part_at, begins, new_start, resumes, start_at, is_no_digest, begins_with_magic, start_of, uploads, wants, refuses_image, lists, lists_after, sets_image, erase_of, erases}
+use Rattle.smp_model.specs.ImageGroup.{completes, keeps, takes_part, part_at, begins, new_start, resumes, start_at, has_wrong_size, begins_with_magic, start_of, uploads, wants, refuses_image, lists, lists_after, sets_image, erase_of, erases}
 use Rattle.smp_model.specs.Laws.{EachStep, PendingIsGood}
 use Rattle.smp_model.specs.Said as said
 use Rattle.smp_model.specs.Counters.{no_counters}
@@ -349,7 +349,7 @@ settling_steps sizes d response f h =
 start_of_steps : (sizes : Sizes) (d : AbstractDevice) (len : Option ℕ) (sha : Option (List ℕ)) (bytes : List ℕ) → UploadFits sizes d.side.upload → UploadSteps sizes d.side.upload (start_of sizes d len sha bytes).steps
 start_of_steps sizes d None sha bytes f = tt
 start_of_steps sizes d (Some n) sha bytes f =
-    either_way Fits (is_no_digest sha) (refuses_image 24) _ tt
+    either_way Fits (has_wrong_size sha) (refuses_image 24) _ tt
     (by_if Fits (nat_lt (sizes.slot - sizes.page) n) (refuses_image 30) _ (λ e. tt)
     (λ room. by_if Fits (nat_lt (length bytes) 32) (refuses_image 22) _ (λ e. tt)
     (λ long. either_way Fits (not (begins_with_magic bytes)) (refuses_image 23) _ tt

@@ -9,7 +9,7 @@ use Rattle.smp_model.specs.declared.upload.Announcement.{Announcement}
 use Rattle.smp_model.specs.declared.upload.Mark.{Mark}
 use Rattle.smp_model.specs.Does.{does}
 use Rattle.smp_model.specs.Image.{good_image}
-use Rattle.smp_model.specs.ImageGroup.{part_at, new_start, resumes, start_at, is_no_digest, begins_with_magic, start_of, uploads, wants, refuses_image, lists_after, mark_of, same_mark, marks, has_hash, confirms, sets_hash, sets_no_hash, sets_image, erase_of, erases}
+use Rattle.smp_model.specs.ImageGroup.{part_at, new_start, resumes, start_at, has_wrong_size, begins_with_magic, start_of, uploads, wants, refuses_image, lists_after, mark_of, same_mark, marks, has_hash, confirms, sets_hash, sets_no_hash, sets_image, erase_of, erases}
 use Rattle.smp_model.specs.Laws.{EachStep, AsksFor, IsDue}
 use Rattle.smp_model.specs.Meant as meant
 use Rattle.smp_model.specs.Meant.{Meant}
@@ -113,7 +113,7 @@ part_upload unit (Some u) off bytes =
 start_of_upload : (sizes : Sizes) (d : AbstractDevice) (len : Option ℕ) (sha : Option (List ℕ)) (bytes : List ℕ) → UploadResponse (start_of sizes d len sha bytes)
 start_of_upload sizes d None sha bytes = tt
 start_of_upload sizes d (Some n) sha bytes =
-    either_way UploadResponse (is_no_digest sha) (refuses_image 24) _ tt
+    either_way UploadResponse (has_wrong_size sha) (refuses_image 24) _ tt
     (either_way UploadResponse (nat_lt (sizes.slot - sizes.page) n) (refuses_image 30) _ tt
     (either_way UploadResponse (nat_lt (length bytes) 32) (refuses_image 22) _ tt
     (either_way UploadResponse (not (begins_with_magic bytes)) (refuses_image 23) _ tt

@@ -8,7 +8,7 @@ use Rattle.smp_model.specs.declared.upload.Announcement.{Announcement}
 use Rattle.smp_model.specs.declared.upload.Mark.{Mark}
 use Rattle.smp_model.specs.Acknowledged.{chosen_since, offset_in, acknowledged, CoversAt}
 use Rattle.smp_model.specs.Does.{does}
-use Rattle.smp_model.specs.ImageGroup.{completes, keeps, takes_part, part_at, new_start, resumes, start_at, is_no_digest, begins_with_magic, start_of, uploads, wants, refuses_image}
+use Rattle.smp_model.specs.ImageGroup.{completes, keeps, takes_part, part_at, new_start, resumes, start_at, has_wrong_size, begins_with_magic, start_of, uploads, wants, refuses_image}
 use Rattle.smp_model.specs.Laws.{ReplyHeld}
 use Rattle.smp_model.specs.Meant as meant
 use Rattle.smp_model.specs.Meant.{Meant}
@@ -102,7 +102,7 @@ offers_settling d response h =
 offers_start_of : (sizes : Sizes) (d : AbstractDevice) (len : Option ℕ) (sha : Option (List ℕ)) (bytes : List ℕ) → Offers d.side.upload (start_of sizes d len sha bytes)
 offers_start_of sizes d None sha bytes = tt
 offers_start_of sizes d (Some n) sha bytes =
-    either_way (Offers d.side.upload) (is_no_digest sha) (refuses_image 24) _ tt
+    either_way (Offers d.side.upload) (has_wrong_size sha) (refuses_image 24) _ tt
     (either_way (Offers d.side.upload) (nat_lt (sizes.slot - sizes.page) n) (refuses_image 30) _ tt
     (either_way (Offers d.side.upload) (nat_lt (length bytes) 32) (refuses_image 22) _ tt
     (either_way (Offers d.side.upload) (not (begins_with_magic bytes)) (refuses_image 23) _ tt

@@ -13,7 +13,7 @@ use Rattle.smp_model.specs.declared.upload.Announcement.{Announcement}
 use Rattle.smp_model.specs.declared.upload.Mark.{Mark}
 use Rattle.smp_model.specs.Does.{does}
 use Rattle.smp_model.specs.Image.{good_image}
-use Rattle.smp_model.specs.ImageGroup.{completes, keeps, takes_part, part_at, new_start, resumes, start_at, is_no_digest, begins_with_magic, start_of, uploads, wants, refuses_image, lists_after, mark_of, same_mark, marks, has_hash, confirms, sets_hash, sets_no_hash, sets_image, erase_of, erases}
+use Rattle.smp_model.specs.ImageGroup.{completes, keeps, takes_part, part_at, new_start, resumes, start_at, has_wrong_size, begins_with_magic, start_of, uploads, wants, refuses_image, lists_after, mark_of, same_mark, marks, has_hash, confirms, sets_hash, sets_no_hash, sets_image, erase_of, erases}
 use Rattle.smp_model.specs.Laws.{EachStep, GoodUpload, GoodWhere, PendingIsGood, IsApart, SameUpload}
 use Rattle.smp_model.specs.Meant as meant
 use Rattle.smp_model.specs.Meant.{Meant}
@@ -235,7 +235,7 @@ behind_refusals d false false false false i j k l x h = h
 start_lawful : (sizes : Sizes) (d : AbstractDevice) (len : Option ℕ) (sha : Option (List ℕ)) (bytes : List ℕ) → PendingIsGood d → AllLawful d (start_of sizes d len sha bytes).steps
 start_lawful sizes d None sha bytes g = tt
 start_lawful sizes d (Some n) sha bytes g =
-    behind_refusals d (is_no_digest sha) (nat_lt (sizes.slot - sizes.page) n) (nat_lt (length bytes) 32) (not (begins_with_magic bytes)) 24 30 22 23 _
+    behind_refusals d (has_wrong_size sha) (nat_lt (sizes.slot - sizes.page) n) (nat_lt (length bytes) 32) (not (begins_with_magic bytes)) 24 30 22 23 _
     (settling_lawful d (λ e. start_at sizes.unit (record { length = n; digest = sha }) bytes e.side.pending e.side.upload) g
     (λ e h. lawful_response e e.side.pending _ refl (start_response sizes.unit e.side.pending e.side.upload (record { length = n; digest = sha }) bytes h)))
 

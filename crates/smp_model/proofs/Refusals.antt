@@ -11,7 +11,7 @@ use Rattle.smp_model.specs.Does.{does}
 use Rattle.smp_model.specs.FileGroup.{if_file, about_file, reads_held, is_sha256, hashes_held, is_no_free_file, begins_file, continues_file, writes_file}
 use Rattle.smp_model.specs.Files.{is_file_name, longest_file, file_of}
 use Rattle.smp_model.specs.Image.{good_image}
-use Rattle.smp_model.specs.ImageGroup.{completes, keeps, takes_part, part_at, begins, new_start, resumes, start_at, is_no_digest, begins_with_magic, start_of, uploads, wants, refuses_image, lists_after, mark_of, same_mark, marks, has_hash, confirms, sets_hash, sets_no_hash, sets_image, erase_of, erases}
+use Rattle.smp_model.specs.ImageGroup.{completes, keeps, takes_part, part_at, begins, new_start, resumes, start_at, has_wrong_size, begins_with_magic, start_of, uploads, wants, refuses_image, lists_after, mark_of, same_mark, marks, has_hash, confirms, sets_hash, sets_no_hash, sets_image, erase_of, erases}
 use Rattle.smp_model.specs.Meant as meant
 use Rattle.smp_model.specs.Meant.{Meant}
 use Rattle.smp_model.specs.Response.{Response, settling}
@@ -91,7 +91,7 @@ part_at_refuses unit (Some u) off bytes =
 start_of_refuses : (sizes : Sizes) (d : AbstractDevice) (len : Option ℕ) (sha : Option (List ℕ)) (bytes : List ℕ) → Settles d (start_of sizes d len sha bytes)
 start_of_refuses sizes d None sha bytes = λ h. inl refl
 start_of_refuses sizes d (Some n) sha bytes =
-    either_way (Settles d) (is_no_digest sha) (refuses_image 24) _ (λ h. inl refl)
+    either_way (Settles d) (has_wrong_size sha) (refuses_image 24) _ (λ h. inl refl)
     (either_way (Settles d) (nat_lt (sizes.slot - sizes.page) n) (refuses_image 30) _ (λ h. inl refl)
     (either_way (Settles d) (nat_lt (length bytes) 32) (refuses_image 22) _ (λ h. inl refl)
     (either_way (Settles d) (not (begins_with_magic bytes)) (refuses_image 23) _ (λ h. inl refl)

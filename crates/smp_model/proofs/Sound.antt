@@ -15,7 +15,7 @@ use Rattle.smp_model.specs.declared.upload.Mark.{Mark}
 use Rattle.smp_model.specs.Does.{does}
 use Rattle.smp_model.specs.FileGroup.{is_no_free_file, begins_file, continues_file, if_file, about_file, reads_held, is_sha256, hashes_held, writes_file}
 use Rattle.smp_model.specs.Files.{is_file_name, longest_file, file_of, stored_file, lengthened}
-use Rattle.smp_model.specs.ImageGroup.{completes, keeps, takes_part, part_at, begins, new_start, resumes, start_at, is_no_digest, begins_with_magic, start_of, uploads, refuses_image, lists_after, sets_image, erase_of, erases}
+use Rattle.smp_model.specs.ImageGroup.{completes, keeps, takes_part, part_at, begins, new_start, resumes, start_at, has_wrong_size, begins_with_magic, start_of, uploads, refuses_image, lists_after, sets_image, erase_of, erases}
 use Rattle.smp_model.specs.Laws.{EachStep}
 use Rattle.smp_model.specs.Meant as meant
 use Rattle.smp_model.specs.Meant.{Meant}
@@ -182,7 +182,7 @@ start_at_fits unit a bytes pending d (Some u) e =
 start_of_fits : (sizes : Sizes) (d : AbstractDevice) (len : Option ℕ) (sha : Option (List ℕ)) (bytes : List ℕ) → AllFit d (start_of sizes d len sha bytes).steps
 start_of_fits sizes d None sha bytes = tt
 start_of_fits sizes d (Some len) sha bytes =
-    either_way (λ (r : Response). AllFit d r.steps) (is_no_digest sha) (refuses_image 24) _ tt
+    either_way (λ (r : Response). AllFit d r.steps) (has_wrong_size sha) (refuses_image 24) _ tt
     (either_way (λ (r : Response). AllFit d r.steps) _ (refuses_image 30) _ tt
     (either_way (λ (r : Response). AllFit d r.steps) (nat_lt (length bytes) 32) (refuses_image 22) _ tt
     (either_way (λ (r : Response). AllFit d r.steps) (not (begins_with_magic bytes)) (refuses_image 23) _ tt

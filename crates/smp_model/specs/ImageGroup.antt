@@ -50,8 +50,8 @@ too_large = 30
 abbrev pub past_the_end : ℕ
 past_the_end = 31
 
-abbrev pub active_image : ℕ
-active_image = 33
+abbrev pub test_of_active : ℕ
+test_of_active = 33
 
 abbrev pub refuses_image : ℕ → Response
 refuses_image number = refuses 1 number
@@ -113,9 +113,10 @@ start_at unit a bytes pending (Some u) =
     if is_resumed_by u.announcement a then resumes unit u.announcement u.accepted bytes
     else new_start unit a bytes pending
 
-abbrev pub is_no_digest : Option (List ℕ) → Bool
-is_no_digest None = false
-is_no_digest (Some sha) = not (length sha == 32)
+-- a digest is there that has not the size of a SHA-256
+abbrev pub has_wrong_size : Option (List ℕ) → Bool
+has_wrong_size None = false
+has_wrong_size (Some sha) = not (length sha == 32)
 
 -- the magic of an image, 0x96f3b83d in little-endian
 abbrev pub begins_with_magic : List ℕ → Bool
@@ -124,7 +125,7 @@ begins_with_magic bytes = bytes_eq (take 4 bytes) (61 ∷ 184 ∷ 243 ∷ 150 �
 abbrev pub start_of : Sizes → AbstractDevice → Option ℕ → Option (List ℕ) → List ℕ → Response
 start_of sizes d None sha bytes = refuses_image no_length
 start_of sizes d (Some len) sha bytes =
-    if is_no_digest sha then refuses_image invalid_digest
+    if has_wrong_size sha then refuses_image invalid_digest
     else if nat_lt (sizes.slot - sizes.page) len then refuses_image too_large
     else if nat_lt (length bytes) 32 then refuses_image invalid_header
     else if not (begins_with_magic bytes) then refuses_image wrong_magic
@@ -185,7 +186,7 @@ second_entry pending i = record {
   permanent = is_permanent pending;
 }
 
--- the images of a device: slot 0, and slot 1 where its upload is complete and good
+-- what a list holds: always slot 0, and slot 1 only with a good upload
 abbrev pub images_of : Side → Said
 images_of side = said.images (and_second
     (active_entry (unwrap_or (good_image side.active) no_image) side.confirmed)
@@ -219,7 +220,7 @@ has_hash hash (Some i) = bytes_eq i.hash hash
 abbrev pub confirms : (confirm confirmed : Bool) → AbstractDevice → Response
 confirms true true d = lists_after [] d
 confirms true false d = lists_after (Confirm ∷ []) d
-confirms false confirmed d = refuses_image active_image
+confirms false confirmed d = refuses_image test_of_active
 
 abbrev pub sets_hash : List ℕ → Bool → AbstractDevice → Response
 sets_hash hash confirm d =
@@ -232,7 +233,7 @@ abbrev pub sets_no_hash : AbstractDevice → Bool → Response
 sets_no_hash d true = settling d (λ e. confirms true e.side.confirmed e)
 sets_no_hash d false = replies (said.smp_error invalid_value)
 
--- a hash of no bytes counts as none
+-- an empty hash is no hash
 abbrev pub sets_image : AbstractDevice → Option (List ℕ) → Bool → Response
 sets_image d None confirm = sets_no_hash d confirm
 sets_image d (Some []) confirm = sets_no_hash d confirm

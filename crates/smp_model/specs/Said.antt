@@ -1,5 +1,5 @@
 -- A reply without where its parts lie in memory, and how it is written: one map, by the response tables of Zephyr's
--- group pages. Which optional keys there are, and the order in which keys are written, is chosen here.
+-- group pages. The optional keys and the order of keys are this project's choice.
 use Rattle.std.specs.Prelude.{ℕ, ◌+◌, List, [], ◌∷◌, ◌++◌, Bool, true, false, Option, Some, None, min, map as each, ◌==◌, if◌then◌else◌, codes, unwrap_or}
 use Rattle.std.specs.Fmt.{decimal}
 use Rattle.smp_header.specs.Message.{Message}

@@ -34,8 +34,7 @@ uploaded_image None = None
 uploaded_image (Some u) =
     if is_complete u && not (differs u.announcement.digest u.accepted) then good_image u.accepted else None
 
--- The bytes that are kept of those that come at the wanted offset: all where they end the upload, else those up to the
--- last whole write unit.
+-- What is stored of a part at the wanted offset: everything where it ends the upload, and else its whole write units.
 abbrev pub kept : (unit size offset : ℕ) → List ℕ → List ℕ
 kept unit size offset bytes =
     if offset + length bytes == size then bytes else take (unit * (length bytes / unit)) bytes

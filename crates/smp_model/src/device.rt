@@ -1,4 +1,5 @@
-//! The abstract device, as values in memory: what is true of a device whatever its flash looks like.
+//! The abstract device, as values in memory: what is true of a device whatever its flash looks like. Definitions are about
+//! these types, and the plain program computes on them.
 //!
 //! What it answers and how it changes is defined in `specs/`: `Steps.antt` (its steps, settling, a start) and `Does.antt`
 //! (the response to each request). The slots and the saved settings are durable; running settings, files and counters

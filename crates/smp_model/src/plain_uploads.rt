@@ -6,7 +6,7 @@ ghost use Rattle.smp_model.specs.Said as said;
 ghost use Rattle.smp_model.specs.Said.{said_of};
 ghost use Rattle.smp_model.specs.Steps.{settle};
 ghost use Rattle.smp_model.specs.Uploads.{differs, is_complete, is_spoiled, kept, same_digest, is_resumed_by};
-ghost use Rattle.smp_model.specs.ImageGroup.{refuses_image, wants, completes, keeps, takes_part, part_at, begins, new_start, resumes, start_at, is_no_digest, begins_with_magic, start_of, uploads};
+ghost use Rattle.smp_model.specs.ImageGroup.{refuses_image, wants, completes, keeps, takes_part, part_at, begins, new_start, resumes, start_at, has_wrong_size, begins_with_magic, start_of, uploads};
 ghost use Rattle.smp_model.specs.Plain.{response_of, settled_of, behind_settling, IsSound};
 
 use crate::plain::{PlainResponse, PlainStep, preceded, refused, replied, responded};
@@ -251,7 +251,7 @@ fn start_at<'a>(
 
 /// The announcement of a start; none where the digest has not 32 bytes.
 fn announced(length: u32, sha: Option<&[u8]>) -> Option<Announcement>
-    ensures there { is_some result ≡ not (is_no_digest (option_map (λ s. s.now) sha.entry)) }
+    ensures there { is_some result ≡ not (has_wrong_size (option_map (λ s. s.now) sha.entry)) }
     ensures value { IfSome result (λ a. a ≡ record { length = length; digest = option_map (λ s. s.now) sha.entry }) }
 {
     let Some(sha) = sha else {
