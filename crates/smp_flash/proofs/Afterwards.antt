@@ -5,7 +5,7 @@ use Rattle.smp_flash.specs.State.{FlashState, Faults, Troubles, End}
 use Rattle.smp_flash.specs.State.End.{Went, WentOff, Failed}
 use Rattle.smp_flash.specs.Calls.{Lowers, Rises, Goes, Cuts, Passes, Calls}
 use Rattle.smp_flash.proofs.Areas.{Keeps-trans}
-use Rattle.smp_flash.proofs.Passing.{Goes-trans, NoGreater-trans, Undisturbed-trans, Spares-same}
+use Rattle.smp_flash.proofs.Passing.{Goes-trans, NoGreater-trans, NeverFewer-trans, Undisturbed-trans, Spares-same}
 use Rattle.smp_flash.proofs.Telling.{Told-trans}
 
 passes_then : (end : End) (a b c : FlashState) → Passes end a b → Goes b c → Passes end a c
@@ -31,4 +31,5 @@ Calls-then spots end a b c f g = record {
   spared = λ s. Undisturbed-trans a b c (f.spared s) (g.spared (Spares-same spots a b (same_sizes end a b f.passes) (f.spared s).aim s));
   keeps = Told-trans (Keeps spots) (Keeps spots) (Keeps spots) a.bytes b.bytes c.bytes (λ u v w k l. Keeps-trans spots u v w k l) f.keeps g.keeps;
   reads = NoGreater-trans c.bytes_read b.bytes_read a.bytes_read g.reads f.reads;
+  changes = NeverFewer-trans a.changes b.changes c.changes f.changes g.changes;
 }

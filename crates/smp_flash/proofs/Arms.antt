@@ -7,7 +7,8 @@ use Rattle.std.proofs.lemmas.Bool.Decides.{nat_tests}
 use Rattle.smp_flash.specs.Arm.{troubles_of, aim_of, patience_of, struck_by, rest_of}
 use Rattle.smp_flash.specs.State.{FlashState}
 use Rattle.smp_flash.specs.State.End.{Went}
-use Rattle.smp_flash.specs.Calls.{Smaller, NoGreater, ReadsAtMost, Spends, Acts}
+use Rattle.smp_flash.specs.Calls.{Smaller, NoGreater, ReadsAtMost, ChangesAtMost, writes_of, erases_of, Spends, Acts}
+use Rattle.smp_flash.specs.declared.flash.Operation.{Operation}
 use Rattle.smp_flash.specs.declared.region.Region.{Region}
 use Rattle.smp_flash.specs.declared.region.Region.TheVariants.{Any}
 use Rattle.smp_flash.specs.declared.arm.Arm.{Arm}
@@ -87,11 +88,12 @@ Same-spent (Some p) None s = absurd s
 Same-spent (Some p) (Some q) s = ap Some s
 
 -- an operation that goes through
-pub Acts-went : (counted costs : Bool) (reads : ℕ) (a b : FlashState) → b.geometry ≡ a.geometry → b.faults ≡ a.faults → b.on ≡ a.on → a.on ≡ true
+pub Acts-went : (counted costs : Bool) (reads : ℕ) (operation : Operation) (a b : FlashState) → b.geometry ≡ a.geometry → b.faults ≡ a.faults → b.on ≡ a.on → a.on ≡ true
     → b.troubles ≡ a.troubles → b.aim ≡ a.aim → Spends costs a.patience b.patience
     → (counted ≡ false → costs ≡ false) → (a.aim ≡ Some Any → (b.bytes ≡ a.bytes) ⊎ (costs ≡ true))
-    → ReadsAtMost reads a.bytes_read b.bytes_read → Acts counted costs reads Went a b
-Acts-went counted costs reads a b geometry faults on was_on troubles aim spends only any read = record {
+    → ReadsAtMost reads a.bytes_read b.bytes_read → ChangesAtMost (writes_of operation) (erases_of operation) a.changes b.changes
+    → Acts counted costs reads operation Went a b
+Acts-went counted costs reads operation a b geometry faults on was_on troubles aim spends only any read changes = record {
   passes = record {
     idle = λ off. absurd (cc (was_on, off));
     geometry = geometry;
@@ -109,6 +111,7 @@ Acts-went counted costs reads a b geometry faults on was_on troubles aim spends 
   spends = λ e. spends;
   spared = λ none. record { troubles = troubles; aim = aim; patience = (let P : Bool → Type 0 = λ c. Spends c a.patience b.patience in Same-spent a.patience b.patience (subst P (only none) spends)) };
   reads = read;
+  changes = changes;
 }
 
 -- as the code finds it

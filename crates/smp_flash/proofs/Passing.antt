@@ -2,9 +2,10 @@
 use Rattle.std.proofs.Common.{◌≡◌, inl, inr, ℕ, ◌+◌, ◌<◌, ◌≤◌, Bool, false, Option, Some, None, List, [], ◌∷◌, refl, sym, ◌∙◌, subst, arith}
 use Rattle.smp_flash.specs.Area.{Keeps, Told, Clear, spot}
 use Rattle.smp_flash.specs.Region.{Spares, counts, counts_write}
-use Rattle.smp_flash.specs.State.{FlashState, Troubles, End}
+use Rattle.smp_flash.specs.State.{FlashState, Troubles, Changes, End}
 use Rattle.smp_flash.specs.State.End.{Went, WentOff, Failed}
-use Rattle.smp_flash.specs.Calls.{NoGreater, Smaller, ReadsAtMost, Lowers, Rises, Goes, Passes, Undisturbed, Acts, Calls}
+use Rattle.smp_flash.specs.declared.flash.Operation.{Operation}
+use Rattle.smp_flash.specs.Calls.{NoGreater, Smaller, ReadsAtMost, ChangesAtMost, NeverFewer, writes_of, erases_of, Lowers, Rises, Goes, Passes, Undisturbed, Acts, Calls}
 use Rattle.smp_flash.specs.declared.region.Region.{Region}
 use Rattle.smp_flash.proofs.Areas.{Keeps-refl, Keeps-trans, Keeps-wider}
 use Rattle.smp_flash.proofs.Telling.{Told-trans, Told-map, Told-same}
@@ -62,6 +63,46 @@ pub reads_none : (p : Option ℕ) → ReadsAtMost 0 p p
 reads_none None = tt
 reads_none (Some p) = (omega arith, omega arith)
 
+pub changes_never_fall : (m n : ℕ) (p q : Option Changes) → ChangesAtMost m n p q → NeverFewer p q
+changes_never_fall m n None None f = tt
+changes_never_fall m n None (Some q) f = absurd f
+changes_never_fall m n (Some p) None f = absurd f
+changes_never_fall m n (Some p) (Some q) f = (f.0, f.2)
+
+-- the writes and erases of two calls add up
+pub changes_add : (m n i j : ℕ) (p q r : Option Changes) → ChangesAtMost m i p q → ChangesAtMost n j q r → ChangesAtMost (m + n) (i + j) p r
+changes_add m n i j None None None f g = tt
+changes_add m n i j None None (Some r) f g = absurd g
+changes_add m n i j None (Some q) r f g = absurd f
+changes_add m n i j (Some p) None r f g = absurd f
+changes_add m n i j (Some p) (Some q) None f g = absurd g
+changes_add m n i j (Some p) (Some q) (Some r) f g =
+    (omega (arith, f.0, g.0), omega (arith, f.1, g.1), omega (arith, f.2, g.2), omega (arith, f.3, g.3))
+
+pub changes_more : (m n i j : ℕ) (p q : Option Changes) → m ≤ n → i ≤ j → ChangesAtMost m i p q → ChangesAtMost n j p q
+changes_more m n i j None None a b f = tt
+changes_more m n i j None (Some q) a b f = absurd f
+changes_more m n i j (Some p) None a b f = absurd f
+changes_more m n i j (Some p) (Some q) a b f =
+    (f.0, omega (arith, f.1, a), f.2, omega (arith, f.3, b))
+
+pub changes_none : (p : Option Changes) → ChangesAtMost 0 0 p p
+changes_none None = tt
+changes_none (Some p) = (omega arith, omega arith, omega arith, omega arith)
+
+pub NeverFewer-refl : (p : Option Changes) → NeverFewer p p
+NeverFewer-refl None = tt
+NeverFewer-refl (Some p) = (omega arith, omega arith)
+
+pub NeverFewer-trans : (p q r : Option Changes) → NeverFewer p q → NeverFewer q r → NeverFewer p r
+NeverFewer-trans None None None f g = tt
+NeverFewer-trans None None (Some r) f g = absurd g
+NeverFewer-trans None (Some q) r f g = absurd f
+NeverFewer-trans (Some p) None r f g = absurd f
+NeverFewer-trans (Some p) (Some q) None f g = absurd g
+NeverFewer-trans (Some p) (Some q) (Some r) f g =
+    (omega (arith, f.0, g.0), omega (arith, f.1, g.1))
+
 pub Goes-refl : (a : FlashState) → Goes a a
 Goes-refl a = record { idle = λ off. refl; geometry = refl; faults = refl; on = refl; troubles = refl; aim = refl; patience = NoGreater-refl a.patience; costs = λ e. inl refl }
 
@@ -118,6 +159,7 @@ Calls-refl spots a = record {
   spared = λ s. Undisturbed-refl a;
   keeps = Told-same (Keeps spots) a.bytes a.bytes (λ u. Keeps-refl spots u) refl;
   reads = NoGreater-refl a.bytes_read;
+  changes = NeverFewer-refl a.changes;
 }
 
 pub Calls-after : (spots : List (ℕ × ℕ)) (end : End) (a b c : FlashState) → Calls spots Went a b → Calls spots end b c → Calls spots end a c
@@ -126,6 +168,7 @@ Calls-after spots end a b c f g = record {
   spared = λ s. Undisturbed-trans a b c (f.spared s) (g.spared (Spares-same spots a b f.passes.geometry f.passes.aim s));
   keeps = Told-trans (Keeps spots) (Keeps spots) (Keeps spots) a.bytes b.bytes c.bytes (λ u v w k l. Keeps-trans spots u v w k l) f.keeps g.keeps;
   reads = NoGreater-trans c.bytes_read b.bytes_read a.bytes_read g.reads f.reads;
+  changes = NeverFewer-trans a.changes b.changes c.changes f.changes g.changes;
 }
 
 -- what the wide spots cover
@@ -139,6 +182,7 @@ Calls-wider wide spots end a b covers f = record {
   spared = λ s. f.spared (covers.spares a.geometry a.aim s);
   keeps = Told-map (Keeps spots) (Keeps wide) a.bytes b.bytes (λ u v k. Keeps-wider spots wide u v covers.clear k) f.keeps;
   reads = f.reads;
+  changes = f.changes;
 }
 
 pub Covers-refl : (spots : List (ℕ × ℕ)) → Covers spots spots
@@ -175,22 +219,24 @@ counts_write_spared : (g : _) (aim : Option Region) (at size : ℕ) (bytes : Lis
 counts_write_spared g None at size bytes some s = refl
 counts_write_spared g (Some region) at size bytes some s = rw (s.0 at (omega arith) (omega arith)) refl
 
-pub read_Calls : (at size : ℕ) (costs : Bool) (n : ℕ) (end : End) (a b : FlashState) → 0 < size → Acts (counts a.geometry a.aim at) costs n end a b
+pub read_Calls : (at size : ℕ) (costs : Bool) (n : ℕ) (operation : Operation) (end : End) (a b : FlashState) → 0 < size → Acts (counts a.geometry a.aim at) costs n operation end a b
     → Told (Keeps (spot at size)) a.bytes b.bytes → Calls (spot at size) end a b
-read_Calls at size costs n end a b some acts keeps = record {
+read_Calls at size costs n operation end a b some acts keeps = record {
   passes = acts.passes;
   spared = λ s. acts.spared (counts_spared a.geometry a.aim at size some s);
   keeps = keeps;
   reads = reads_never_fall n a.bytes_read b.bytes_read acts.reads;
+  changes = changes_never_fall (writes_of operation) (erases_of operation) a.changes b.changes acts.changes;
 }
 
-pub write_Calls : (at size : ℕ) (bytes : List ℕ) (costs : Bool) (n : ℕ) (end : End) (a b : FlashState) → 0 < size → Acts (counts_write a.geometry a.aim at bytes) costs n end a b
+pub write_Calls : (at size : ℕ) (bytes : List ℕ) (costs : Bool) (n : ℕ) (operation : Operation) (end : End) (a b : FlashState) → 0 < size → Acts (counts_write a.geometry a.aim at bytes) costs n operation end a b
     → Told (Keeps (spot at size)) a.bytes b.bytes → Calls (spot at size) end a b
-write_Calls at size bytes costs n end a b some acts keeps = record {
+write_Calls at size bytes costs n operation end a b some acts keeps = record {
   passes = acts.passes;
   spared = λ s. acts.spared (counts_write_spared a.geometry a.aim at size bytes some s);
   keeps = keeps;
   reads = reads_never_fall n a.bytes_read b.bytes_read acts.reads;
+  changes = changes_never_fall (writes_of operation) (erases_of operation) a.changes b.changes acts.changes;
 }
 
 -- two spots within a wide one

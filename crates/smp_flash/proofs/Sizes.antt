@@ -1,8 +1,8 @@
 -- A lawful geometry is regular.
-use Rattle.std.proofs.Common.{◌≡◌, inl, inr, ℕ, ◌*◌, ◌%◌, ◌^◌, ◌<◌, ◌≤◌, Bool, true, false, refl, sym, subst, arith}
-use Rattle.std.specs.Prelude.{◌&&◌, ◌||◌, ◌==◌, IsTrue, nat_le}
+use Rattle.std.proofs.Common.{◌≡◌, ◌⊎◌, inl, inr, ℕ, ◌+◌, ◌*◌, ◌%◌, ◌^◌, ◌<◌, ◌≤◌, Bool, true, false, refl, sym, ap, subst, arith}
+use Rattle.std.specs.Prelude.{◌&&◌, ◌==◌, if◌then◌else◌, IsTrue}
 use Rattle.std.proofs.lemmas.Bool.Decides.{nat_tests}
-use Rattle.smp_flash.specs.Geometry.{is_lawful, slot_size, Regular, IsPage, IsUnit}
+use Rattle.smp_flash.specs.Geometry.{is_page, is_unit, are_slot_pages, are_images, is_lawful, slot_size, first_size, second_size, of_second, size_of, Regular, IsPage, IsUnit}
 use Rattle.smp_flash.specs.declared.geometry.Geometry.{Geometry}
 
 -- a fact of each page size
@@ -49,11 +49,17 @@ record UnitFacts (unit : ℕ) : Type 0 where
 unit_facts : (unit : ℕ) → IsUnit unit → UnitFacts unit
 unit_facts unit is = each_unit UnitFacts (record { some = omega arith; divides = refl }) (record { some = omega arith; divides = refl }) (record { some = omega arith; divides = refl }) (record { some = omega arith; divides = refl }) unit is
 
-page_cases : (page : ℕ) → (page == 512 || page == 1024 || page == 2048 || page == 4096) ≡ true → IsPage page
+page_cases : (page : ℕ) → is_page page ≡ true → IsPage page
 page_cases page is = grind (arith, nat_tests)
 
-unit_cases : (unit : ℕ) → (unit == 1 || unit == 2 || unit == 4 || unit == 8) ≡ true → IsUnit unit
+unit_cases : (unit : ℕ) → is_unit unit ≡ true → IsUnit unit
 unit_cases unit is = grind (arith, nat_tests)
+
+slot_cases : (n : ℕ) → are_slot_pages n ≡ true → (4 ≤ n) × (n ≤ 1024)
+slot_cases n is = (grind (arith, nat_tests), grind (arith, nat_tests))
+
+image_cases : (n : ℕ) → are_images n ≡ true → (n ≡ 1) ⊎ (n ≡ 2)
+image_cases n is = grind (arith, nat_tests)
 
 and_left : (a b : Bool) → (a && b) ≡ true → a ≡ true
 and_left true b e = refl
@@ -63,23 +69,31 @@ and_right : (a b : Bool) → (a && b) ≡ true → b ≡ true
 and_right true b e = e
 and_right false b e = absurd (cc e)
 
-le_of : (a b : ℕ) → nat_le a b ≡ true → a ≤ b
-le_of a b h = grind (arith, nat_tests)
+-- bytes that a second image has
+pub of_two : (g : Geometry) (n : ℕ) → g.images ≡ 2 → of_second g n ≡ n
+of_two g n two = (let t : (g.images == 2) ≡ true = grind (arith, nat_tests) in ap (λ (b : Bool). if b then n else 0) t)
+
+pub of_one : (g : Geometry) (n : ℕ) → g.images ≡ 1 → of_second g n ≡ 0
+of_one g n one = (let t : (g.images == 2) ≡ false = grind (arith, nat_tests) in ap (λ (b : Bool). if b then n else 0) t)
+
+-- the size of the whole flash
+sizes : (g : Geometry) → ((g.images ≡ 1) ⊎ (g.images ≡ 2)) → slot_size g ≤ 2 ^ 22 → g.page ≤ 4096 → size_of g ≤ 2 ^ 25
+sizes g images most page = elim images [
+  | inl one ↦ omega (arith, of_one g (second_size g) one)
+  | inr two ↦ omega (arith, of_two g (second_size g) two)
+]
 
 pub regular : (g : Geometry) → IsTrue (is_lawful g) → Regular g
 regular g is =
-    let pages = g.page == 512 || g.page == 1024 || g.page == 2048 || g.page == 4096 in
-    let units = g.unit == 1 || g.unit == 2 || g.unit == 4 || g.unit == 8 in
-    let three : (pages && units && nat_le 4 g.slot_pages) ≡ true = and_left (pages && units && nat_le 4 g.slot_pages) (nat_le g.slot_pages 1024) is in
-    let two : (pages && units) ≡ true = and_left (pages && units) (nat_le 4 g.slot_pages) three in
-    let is_page : IsPage g.page = page_cases g.page (and_left pages units two) in
-    let is_unit : IsUnit g.unit = unit_cases g.unit (and_right pages units two) in
+    let rest : (is_unit g.unit && (are_slot_pages g.slot_pages && are_images g.images)) ≡ true = and_right (is_page g.page) _ is in
+    let last : (are_slot_pages g.slot_pages && are_images g.images) ≡ true = and_right (is_unit g.unit) _ rest in
+    let is_page : IsPage g.page = page_cases g.page (and_left (is_page g.page) _ is) in
+    let is_unit : IsUnit g.unit = unit_cases g.unit (and_left (is_unit g.unit) _ rest) in
+    let pages = slot_cases g.slot_pages (and_left (are_slot_pages g.slot_pages) _ last) in
+    let images = image_cases g.images (and_right (are_slot_pages g.slot_pages) _ last) in
     let p = page_facts g.page is_page in
     let u = unit_facts g.unit is_unit in
-    let low : 4 ≤ g.slot_pages = le_of 4 g.slot_pages (and_right (pages && units) (nat_le 4 g.slot_pages) three) in
-    let high : g.slot_pages ≤ 1024 = le_of g.slot_pages 1024 (and_right (pages && units && nat_le 4 g.slot_pages) (nat_le g.slot_pages 1024) is) in
-    let most : slot_size g ≤ 2 ^ 22 = p.slot_most g.slot_pages high in
-    let page_most : g.page ≤ 4096 = p.most in
+    let most : slot_size g ≤ 2 ^ 22 = p.slot_most g.slot_pages pages.1 in
     record {
       is_page = is_page;
       is_unit = is_unit;
@@ -91,7 +105,10 @@ regular g is =
       unit_some = u.some;
       unit_divides = u.divides;
       slot_whole = p.whole g.slot_pages;
-      slot_least = p.least g.slot_pages low;
+      slot_least = p.least g.slot_pages pages.0;
       slot_most = most;
-      size_most = omega (arith, most, page_most);
+      images_some = images;
+      size_least = omega arith;
+      size_two = λ two. ap (λ n. first_size g + n) (of_two g (second_size g) two);
+      size_most = sizes g images most p.most;
     }

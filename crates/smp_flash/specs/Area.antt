@@ -1,5 +1,6 @@
 -- Parts of a list of bytes, and what a change leaves of them.
-use Rattle.std.specs.Prelude.{◌≡◌, ◌⊎◌, ◌+◌, ◌≤◌, ℕ, List, [], ◌∷◌, length, take, drop, replicate, Option, Some, None}
+use Rattle.std.specs.Prelude.{◌≡◌, ◌⊎◌, ◌+◌, ◌<◌, ◌≤◌, ℕ, zero, suc, if◌then◌else◌, List, [], ◌∷◌, length, take, drop, get_or, replicate, Option, Some, None}
+use Rattle.std.specs.Str.{bytes_eq}
 
 -- the bytes of a part
 abbrev pub area : ℕ → ℕ → List ℕ → List ℕ
@@ -44,6 +45,19 @@ pub record Fades (at size : ℕ) (old new : List ℕ) : Type 0 where
 pub record Erased (at size : ℕ) (old new : List ℕ) : Type 0 where
   pub fades : Fades at size old new
   pub erased : area at size new ≡ blank size
+
+-- each number is a byte
+abbrev pub AreBytes : List ℕ → Type 0
+AreBytes xs = (i : ℕ) → get_or xs i 0 < 256
+
+-- one where a byte of the page is not FF, else none
+abbrev pub dirty : ℕ → List ℕ → ℕ
+dirty page bytes = if bytes_eq bytes (blank page) then 0 else 1
+
+-- how many of the n pages from a place on have a byte that is not FF
+abbrev pub dirty_pages : ℕ → ℕ → ℕ → List ℕ → ℕ
+dirty_pages page at zero bytes = 0
+dirty_pages page at (suc n) bytes = dirty page (area at page bytes) + dirty_pages page (at + page) n bytes
 
 -- a fact about the bytes before and after, where they are told; whether they are told is the same
 abbrev pub Told : (List ℕ → List ℕ → Type 0) → Option (List ℕ) → Option (List ℕ) → Type 0

@@ -2,7 +2,7 @@
 use Rattle.std.specs.Prelude.{◌≡◌, ◌⊎◌, ◌↔◌, ◌+◌, ◌-◌, ◌^◌, ◌<◌, ◌≤◌, min, ℕ, List, Bool, true, false, Option, Some, None}
 use Rattle.smp_flash.specs.Area.{Keeps, Told}
 use Rattle.smp_flash.specs.Region.{Spares, counts, counts_write}
-use Rattle.smp_flash.specs.State.{Faults, Troubles, FlashState, End}
+use Rattle.smp_flash.specs.State.{Faults, Troubles, Changes, FlashState, End}
 use Rattle.smp_flash.specs.State.End.{Went, WentOff, Failed}
 use Rattle.smp_flash.specs.declared.flash.Operation.{Operation}
 use Rattle.smp_flash.specs.declared.flash.Operation.TheVariants.{Read, Write, Erase}
@@ -55,6 +55,31 @@ ReadsAtMost n None (Some b) = ⊥
 ReadsAtMost n (Some a) None = ⊥
 ReadsAtMost n (Some a) (Some b) = (a ≤ b) × (b ≤ a + n)
 
+-- the writes and erases never fall, and rose by at most so many; whether they are told is the same
+abbrev pub ChangesAtMost : ℕ → ℕ → Option Changes → Option Changes → Type 0
+ChangesAtMost writes erases None None = Unit {0}
+ChangesAtMost writes erases None (Some b) = ⊥
+ChangesAtMost writes erases (Some a) None = ⊥
+ChangesAtMost writes erases (Some a) (Some b) = (a.writes ≤ b.writes) × (b.writes ≤ a.writes + writes) × (a.erases ≤ b.erases) × (b.erases ≤ a.erases + erases)
+
+-- the writes and erases never fall; whether they are told is the same
+abbrev pub NeverFewer : Option Changes → Option Changes → Type 0
+NeverFewer None None = Unit {0}
+NeverFewer None (Some b) = ⊥
+NeverFewer (Some a) None = ⊥
+NeverFewer (Some a) (Some b) = (a.writes ≤ b.writes) × (a.erases ≤ b.erases)
+
+-- how many writes and erases an operation is
+abbrev pub writes_of : Operation → ℕ
+writes_of Read = 0
+writes_of Write = 1
+writes_of Erase = 0
+
+abbrev pub erases_of : Operation → ℕ
+erases_of Read = 0
+erases_of Write = 0
+erases_of Erase = 1
+
 -- where the aim is any place, a call that changed a byte took patience
 abbrev pub Costs : Option Region → Option (List ℕ) → Option (List ℕ) → Option ℕ → Option ℕ → Type 0
 Costs aim old new p q = aim ≡ Some Any → (new ≡ old) ⊎ Smaller p q
@@ -105,26 +130,27 @@ Spends costs (Some a) None = ⊥
 Spends true (Some a) (Some b) = a ≡ b + 1
 Spends false (Some a) (Some b) = b ≡ a
 
--- What an operation of the flash does: by whether it counts in the aim, whether it is then a write or an erase, and how
--- many bytes it may read.
-pub record Acts (counted costs : Bool) (most : ℕ) (end : End) (a b : FlashState) : Type 0 where
+-- What an operation of the flash does: by whether it counts in the aim, whether it is then a write or an erase, how many
+-- bytes it may read, and what it is.
+pub record Acts (counted costs : Bool) (most : ℕ) (operation : Operation) (end : End) (a b : FlashState) : Type 0 where
   pub passes : Passes end a b
   pub awake : a.on ≡ false → end ≡ WentOff
   pub spends : end ≡ Went → Spends costs a.patience b.patience
   pub spared : counted ≡ false → Undisturbed a b
   pub reads : ReadsAtMost most a.bytes_read b.bytes_read
+  pub changes : ChangesAtMost (writes_of operation) (erases_of operation) a.changes b.changes
 
 -- a read of at most so many bytes that begins there
 abbrev pub Reads : ℕ → ℕ → End → FlashState → FlashState → Type 0
-Reads at most end a b = Acts (counts a.geometry a.aim at) false most end a b
+Reads at most end a b = Acts (counts a.geometry a.aim at) false most Read end a b
 
 -- a write of these bytes that begins there
 abbrev pub Writes : ℕ → List ℕ → End → FlashState → FlashState → Type 0
-Writes at bytes end a b = Acts (counts_write a.geometry a.aim at bytes) (counts_write a.geometry a.aim at bytes) 0 end a b
+Writes at bytes end a b = Acts (counts_write a.geometry a.aim at bytes) (counts_write a.geometry a.aim at bytes) 0 Write end a b
 
 -- an erase of the page that begins there
 abbrev pub Erases : ℕ → End → FlashState → FlashState → Type 0
-Erases at end a b = Acts (counts a.geometry a.aim at) (counts a.geometry a.aim at) 0 end a b
+Erases at end a b = Acts (counts a.geometry a.aim at) (counts a.geometry a.aim at) 0 Erase end a b
 
 -- What a call of a layer does to the flash, where its operations begin in these spots and it ends so. Where none of them
 -- counts in the aim, it lowers no trouble and takes no patience.
@@ -133,6 +159,7 @@ pub record Calls (spots : List (ℕ × ℕ)) (end : End) (a b : FlashState) : Ty
   pub spared : Spares a.geometry a.aim spots → Undisturbed a b
   pub keeps : Told (Keeps spots) a.bytes b.bytes
   pub reads : NoGreater b.bytes_read a.bytes_read
+  pub changes : NeverFewer a.changes b.changes
 
 -- the failures after a call that ended so
 abbrev pub FaultsAfter : End → Faults → Faults → Type 0
@@ -155,6 +182,7 @@ pub record Prepares (end : End) (a b : FlashState) : Type 0 where
   pub cut : end ≡ WentOff → a.on ≡ true → Lowers WentOff a.troubles b.troubles
   pub quiet : (end ≡ WentOff → ⊥) → Undisturbed a b
   pub reads : b.bytes_read ≡ a.bytes_read
+  pub changes : b.changes ≡ a.changes
 
 -- How a layer passes faults on, in the words of the promise.
 pub record PassesFaultsOn (spots : List (ℕ × ℕ)) (end : End) (a b : FlashState) : Type 0 where

@@ -4,7 +4,7 @@ use Rattle.smp_flash.specs.Area.{blank}
 use Rattle.smp_flash.specs.Arm.{troubles_of, aim_of, patience_of}
 use Rattle.smp_flash.specs.Geometry.{size_of}
 use Rattle.smp_flash.specs.Region.{counts, counts_write}
-use Rattle.smp_flash.specs.State.{Faults, FlashState, End}
+use Rattle.smp_flash.specs.State.{Faults, Changes, FlashState, End}
 use Rattle.smp_flash.specs.State.End.{Went, WentOff, Failed}
 use Rattle.smp_flash.specs.declared.flash.Operation.TheVariants.{Read, Write, Erase}
 use Rattle.smp_flash.specs.declared.arm.Arm.{Arm}
@@ -18,7 +18,8 @@ pub record Memory : Type 0 where
   pub bytes : List ℕ
   pub on : Bool
   pub faults : Faults
-  pub changes : ℕ
+  pub writes : ℕ
+  pub erases : ℕ
   pub bytes_read : ℕ
   pub arm : Option Arm
 
@@ -28,7 +29,8 @@ memory_of m = record {
   bytes = m.held.items;
   on = m.on;
   faults = record { reads = m.failed_reads; writes = m.failed_writes; erases = m.failed_erases };
-  changes = m.changes;
+  writes = m.writes;
+  erases = m.erases;
   bytes_read = m.bytes_read;
   arm = m.arm;
 }
@@ -40,7 +42,8 @@ steady_memory s = record {
   bytes = s.held.items;
   on = true;
   faults = record { reads = 0; writes = s.failed_creates; erases = 0 };
-  changes = s.changes;
+  writes = s.writes;
+  erases = s.erases;
   bytes_read = s.bytes_read;
   arm = None;
 }
@@ -56,6 +59,7 @@ told_by m = record {
   aim = aim_of m.arm;
   patience = patience_of m.arm;
   bytes_read = Some m.bytes_read;
+  changes = Some (record { writes = m.writes; erases = m.erases });
 }
 
 -- a new one: all erased, on, nothing counted, nothing armed
@@ -65,7 +69,8 @@ fresh g = record {
   bytes = blank (size_of g);
   on = true;
   faults = record { reads = 0; writes = 0; erases = 0 };
-  changes = 0;
+  writes = 0;
+  erases = 0;
   bytes_read = 0;
   arm = None;
 }
@@ -73,6 +78,10 @@ fresh g = record {
 -- a count that is raised by n stays at the greatest u64
 abbrev pub raised : ℕ → ℕ → ℕ
 raised n count = min (count + n) (2 ^ 64 - 1)
+
+-- writes and erases together, which stay at the greatest u64 too
+abbrev pub changes_of : Memory → ℕ
+changes_of m = min (m.writes + m.erases) (2 ^ 64 - 1)
 
 -- the failures after an operation that ended so
 abbrev pub faults_after : End → Faults → Faults

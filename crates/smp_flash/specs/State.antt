@@ -20,9 +20,14 @@ pub record Troubles : Type 0 where
   pub changes : ℕ
   pub reads : ℕ
 
+-- how many writes and erases were made
+pub record Changes : Type 0 where
+  pub writes : ℕ
+  pub erases : ℕ
+
 -- What a flash tells: its bytes, whether it is on, its sizes, its failures so far, the troubles that may still come, the
--- region in which the next one falls, how many writes and erases counted there can still go through before it, and how
--- many bytes were asked of it by reads.
+-- region in which the next one falls, how many writes and erases counted there can still go through before it, how many
+-- bytes were asked of it by reads, and how many writes and erases it made.
 pub record FlashState : Type 0 where
   pub bytes : Option (List ℕ)
   pub on : Bool
@@ -32,6 +37,7 @@ pub record FlashState : Type 0 where
   pub aim : Option Region
   pub patience : Option ℕ
   pub bytes_read : Option ℕ
+  pub changes : Option Changes
 
 -- a call went through, met an off flash, or met an operation that failed
 pub data End : Type 0 where

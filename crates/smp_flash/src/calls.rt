@@ -1,7 +1,7 @@
 // The single operations of a flash, as the layers above call them.
 ghost use Rattle.std.specs.Prelude.{◌≡◌, ◌≢◌, ◌+◌, ◌*◌, ◌%◌, ◌<◌, ◌≤◌, ◌↔◌, length, true, false, None, IfOk, OnOk, OnErr, IfSome, IsTrue};
-ghost use Rattle.smp_flash.specs.Area.{area, blank, spot, Keeps, Holds, Fades, Erased, Told};
-ghost use Rattle.smp_flash.specs.Calls.{Calls, ReadsAtMost, Smaller};
+ghost use Rattle.smp_flash.specs.Area.{area, blank, dirty, spot, Keeps, Holds, Fades, Erased, Told};
+ghost use Rattle.smp_flash.specs.Calls.{Calls, ReadsAtMost, ChangesAtMost, Smaller};
 ghost use Rattle.smp_flash.specs.Geometry.{is_lawful, size_of, Regular};
 ghost use Rattle.smp_flash.specs.Region.{counts, counts_write};
 ghost use Rattle.smp_flash.specs.State.{FlashState, ended, call_fault};
@@ -36,6 +36,7 @@ pub fn read_part<F: Flash>(flash: &mut F, at: u32, into: &mut [u8]) -> Result<()
     ensures calls { Calls (spot at (length into.old)) (ended result) (F.state flash.old) (F.state flash.new) }
     ensures kept { (F.state flash.new).bytes ≡ (F.state flash.old).bytes }
     ensures reads { ReadsAtMost (length into.old) (F.state flash.old).bytes_read (F.state flash.new).bytes_read }
+    ensures changes { ChangesAtMost 0 0 (F.state flash.old).changes (F.state flash.new).changes }
     ensures bytes { OnOk result (IfSome (F.state flash.old).bytes (λ held. into.new ≡ area at (length into.old) held)) }
     ensures unspent { OnOk result ((F.state flash.new).patience ≡ (F.state flash.old).patience) }
     ensures uncut { (F.state flash.old).on ≡ true → (F.state flash.old).aim ≢ None → ended result ≢ WentOff }
@@ -55,6 +56,7 @@ pub fn write_part<F: Flash>(flash: &mut F, at: u32, bytes: &[u8]) -> Result<(), 
     requires erased { IfSome (F.state flash.old).bytes (λ held. area at (length bytes.now) held ≡ blank (length bytes.now)) }
     ensures calls { Calls (spot at (length bytes.now)) (ended result) (F.state flash.old) (F.state flash.new) }
     ensures reads { ReadsAtMost 0 (F.state flash.old).bytes_read (F.state flash.new).bytes_read }
+    ensures changes { ChangesAtMost 1 0 (F.state flash.old).changes (F.state flash.new).changes }
     ensures ok { OnOk result (Told (Holds at bytes.now) (F.state flash.old).bytes (F.state flash.new).bytes) }
     ensures pays { OnOk result (counts_write (F.state flash.old).geometry (F.state flash.old).aim at bytes.now ≡ true
         → Smaller (F.state flash.old).patience (F.state flash.new).patience) }
@@ -65,10 +67,31 @@ pub fn write_part<F: Flash>(flash: &mut F, at: u32, bytes: &[u8]) -> Result<(), 
     }
 }
 
+/// The largest page, erased.
+const ERASED_PAGE: [u8; 4096] = [0xff; 4096];
+
+/// So many erased bytes.
+fn erased_bytes(size: usize) -> &'static [u8]
+    requires { size ≤ 4096 }
+    ensures { result.now ≡ blank size }
+{
+    &ERASED_PAGE[..size]
+}
+
+/// Whether the two are the same.
+fn is_same(one: &[u8], other: &[u8]) -> bool
+    ensures { IsTrue result ↔ (one.now ≡ other.now) }
+{
+    one == other
+}
+
 /// Whether every byte is erased.
 pub fn is_erased(bytes: &[u8]) -> bool
     ensures { IsTrue result ↔ (bytes.now ≡ blank (length bytes.now)) }
 {
+    if bytes.len() <= ERASED_PAGE.len() {
+        return is_same(bytes, erased_bytes(bytes.len()));
+    }
     for byte in bytes {
         if *byte != 0xff {
             return false;
@@ -85,6 +108,7 @@ pub fn erase_page<F: Flash>(flash: &mut F, at: u32, size: u32) -> Result<(), Cal
     requires inside { at + size ≤ size_of (F.state flash.old).geometry }
     ensures calls { Calls (spot at size) (ended result) (F.state flash.old) (F.state flash.new) }
     ensures reads { ReadsAtMost 0 (F.state flash.old).bytes_read (F.state flash.new).bytes_read }
+    ensures changes { ChangesAtMost 0 1 (F.state flash.old).changes (F.state flash.new).changes }
     ensures fades { Told (Fades at size) (F.state flash.old).bytes (F.state flash.new).bytes }
     ensures erased { OnOk result (Told (Erased at size) (F.state flash.old).bytes (F.state flash.new).bytes) }
     ensures pays { OnOk result (counts (F.state flash.old).geometry (F.state flash.old).aim at ≡ true
@@ -109,6 +133,7 @@ pub fn reads_erased<F: Flash>(
     ensures calls { Calls (spot at size) (ended result) (F.state flash.old) (F.state flash.new) }
     ensures kept { (F.state flash.new).bytes ≡ (F.state flash.old).bytes }
     ensures reads { ReadsAtMost size (F.state flash.old).bytes_read (F.state flash.new).bytes_read }
+    ensures changes { ChangesAtMost 0 0 (F.state flash.old).changes (F.state flash.new).changes }
     ensures unspent { OnOk result ((F.state flash.new).patience ≡ (F.state flash.old).patience) }
     ensures erased { IfOk result (λ erased. IfSome (F.state flash.old).bytes (λ held. IsTrue erased ↔ (area at size held ≡ blank size))) }
 {
@@ -130,11 +155,13 @@ pub fn clear_page<F: Flash>(
     requires inside { at + size ≤ size_of (F.state flash.old).geometry }
     ensures calls { Calls (spot at size) (ended result) (F.state flash.old) (F.state flash.new) }
     ensures reads { ReadsAtMost size (F.state flash.old).bytes_read (F.state flash.new).bytes_read }
+    ensures changes { ChangesAtMost 0 1 (F.state flash.old).changes (F.state flash.new).changes }
     ensures fades { Told (Fades at size) (F.state flash.old).bytes (F.state flash.new).bytes }
     ensures erased { OnOk result (Told (Erased at size) (F.state flash.old).bytes (F.state flash.new).bytes) }
     ensures clean { IfSome (F.state flash.old).bytes (λ held. area at size held ≡ blank size → (F.state flash.new).bytes ≡ (F.state flash.old).bytes) }
 
     // A page that is erased already is not erased again.
+    ensures erases { IfSome (F.state flash.old).bytes (λ held. ChangesAtMost 0 (dirty size (area at size held)) (F.state flash.old).changes (F.state flash.new).changes) }
     ensures unspent { OnOk result (IfSome (F.state flash.old).bytes (λ held. area at size held ≡ blank size → (F.state flash.new).patience ≡ (F.state flash.old).patience)) }
 {
     if reads_erased(flash, at, size, &mut buffer[..size as usize])? {

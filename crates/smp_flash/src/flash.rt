@@ -1,7 +1,7 @@
 // A flash as its callers see it.
 ghost use Rattle.std.specs.Prelude.{◌≡◌, ◌≢◌, ◌+◌, ◌*◌, ◌%◌, ◌≤◌, IsTrue, List, ℕ, length, true, false, None, OnOk, OnErr, IfSome};
 ghost use Rattle.smp_flash.specs.declared.flash.Operation.TheVariants.{Read, Write, Erase};
-ghost use Rattle.smp_flash.specs.Area.{area, blank, spot, Keeps, Holds, Faded, Fades, Erased, Told};
+ghost use Rattle.smp_flash.specs.Area.{AreBytes, area, blank, spot, Keeps, Holds, Faded, Fades, Erased, Told};
 ghost use Rattle.smp_flash.specs.Geometry.{is_lawful, size_of};
 ghost use Rattle.smp_flash.specs.State.{FlashState, end_of};
 ghost use Rattle.smp_flash.specs.State.End.{WentOff};
@@ -95,4 +95,6 @@ pub trait Flash {
     ghost lawful: { (flash : Self) → IsTrue (is_lawful (state flash).geometry) };
 
     ghost sized: { (flash : Self) → IfSome (state flash).bytes (λ held. length held ≡ size_of (state flash).geometry) };
+
+    ghost bytes: { (flash : Self) → IfSome (state flash).bytes AreBytes };
 }

@@ -39,10 +39,11 @@ pub use calls::{clear_page, erase_page, is_erased, read_part, reads_erased, size
 pub use flash::{CallFault, Flash, FlashFault, Operation};
 pub use geometry::Geometry;
 pub use laws::{
-    bank_gates_count, calls_compose, calls_pass_faults_on, calls_then_nothing_more,
-    pages_are_whole, regions_lie_apart, regions_spare_each_other, told_bytes_have_the_size,
+    calls_compose, calls_pass_faults_on, calls_then_nothing_more, images_lie_apart,
+    pages_are_whole, regions_count_what_begins_there, regions_lie_apart, regions_spare_each_other,
+    spots_spare_what_lies_apart, told_bytes_have_the_size,
 };
-pub use layout::{Area, BankPlace, Layout};
+pub use layout::{Area, BankPlace, Layout, SIDE};
 pub use memory::MemFlash;
 pub use region::{GATE, Region};
 pub use steady::SteadyFlash;

@@ -1,7 +1,7 @@
 // A flash in memory, which acts as the model and can be armed.
 ghost use Rattle.std.specs.Prelude.{◌≡◌, ◌≢◌, ◌+◌, ◌*◌, ◌%◌, ◌≤◌, ◌^◌, IsTrue, IfOk, OnOk, OnErr, IfSome, IfNone, Some, None, true, false, length};
 ghost use Rattle.std.specs.Option.{ForSome};
-ghost use Rattle.smp_flash.specs.Area.{area, blank, spot, Keeps, Holds, Fades, Erased, Faded, Told};
+ghost use Rattle.smp_flash.specs.Area.{AreBytes, area, blank, spot, Keeps, Holds, Fades, Erased, Faded, Told};
 ghost use Rattle.smp_flash.specs.Arm.{aim_of, struck_by, rest_of, end_by, left_written, left_erased};
 ghost use Rattle.smp_flash.specs.Calls.{Reads, Writes, Erases, Prepares};
 ghost use Rattle.smp_flash.specs.Geometry.{is_lawful, size_of};
@@ -29,11 +29,13 @@ pub struct MemFlash {
     failed_reads: u64,
     failed_writes: u64,
     failed_erases: u64,
-    changes: u64,
+    writes: u64,
+    erases: u64,
     bytes_read: u64,
     arm: Option<Arm>,
     ghost lawful: { IsTrue (is_lawful geometry) },
     ghost sized: { length held.items ≡ size_of geometry },
+    ghost bytes: { AreBytes held.items },
     ghost armed: { ForSome arm (λ arm. 1 ≤ arm.after) },
 }
 
@@ -62,7 +64,7 @@ fn is_write_counted(geometry: Geometry, armed: &Option<Arm>, at: u32, bytes: &[u
 }
 
 impl MemFlash {
-    ghost use Rattle.smp_flash.specs.Memory.{memory_of, fresh};
+    ghost use Rattle.smp_flash.specs.Memory.{memory_of, fresh, changes_of};
 
     /// A flash that is all FF and on, with nothing counted and nothing armed.
     pub fn new(alloc: Global, geometry: Geometry) -> Result<MemFlash, AllocError>
@@ -77,7 +79,8 @@ impl MemFlash {
             failed_reads: 0,
             failed_writes: 0,
             failed_erases: 0,
-            changes: 0,
+            writes: 0,
+            erases: 0,
             bytes_read: 0,
             arm: None,
         })
@@ -107,9 +110,16 @@ impl MemFlash {
 
     /// How many writes and erases were begun while it was on. The number stays at the greatest u64.
     pub fn changes(&self) -> u64
-        ensures { result ≡ (memory_of self.now).changes }
+        ensures { result ≡ changes_of (memory_of self.now) }
     {
-        self.changes
+        self.writes.saturating_add(self.erases)
+    }
+
+    /// How many of these were erases. The number stays at the greatest u64.
+    pub fn erases(&self) -> u64
+        ensures { result ≡ (memory_of self.now).erases }
+    {
+        self.erases
     }
 
     /// How many bytes were asked for by reads while it was on. The number stays at the greatest u64.
@@ -128,6 +138,8 @@ impl Flash for MemFlash {
     ghost lawful = { λ m. m.lawful };
 
     ghost sized = { λ m. m.sized };
+
+    ghost bytes = { λ m. m.bytes };
 
     fn attach(&mut self, _name: &str) -> Result<(), FlashFault>
         ensures prepares { Prepares (end_of Read result) (mem_state self.old) (mem_state self.new) }
@@ -183,7 +195,7 @@ impl Flash for MemFlash {
         ensures rest { (memory_of self.old).on ≡ true → (memory_of self.new).arm ≡ rest_of (read_counts (memory_of self.old) at) true (memory_of self.old).arm }
         ensures faults { (memory_of self.new).faults ≡ faults_after (end_of Read result) (memory_of self.old).faults }
         ensures counted { (memory_of self.old).on ≡ true → (memory_of self.new).bytes_read ≡ raised (length into.old) (memory_of self.old).bytes_read }
-        ensures changes { (memory_of self.new).changes ≡ (memory_of self.old).changes }
+        ensures changes { ((memory_of self.new).writes ≡ (memory_of self.old).writes) × ((memory_of self.new).erases ≡ (memory_of self.old).erases) }
         ensures nothing { OnErr result (into.new ≡ into.old) }
     {
         if !self.on {
@@ -220,12 +232,13 @@ impl Flash for MemFlash {
         ensures left { (memory_of self.old).on ≡ true → IfSome (struck_by (write_counts (memory_of self.old) at bytes.now) false (memory_of self.old).arm)
             (λ arm. area at (length bytes.now) (memory_of self.new).bytes ≡ left_written arm.left (area at (length bytes.now) (memory_of self.old).bytes) bytes.now) }
         ensures faults { (memory_of self.new).faults ≡ faults_after (end_of Write result) (memory_of self.old).faults }
-        ensures changes { (memory_of self.old).on ≡ true → (memory_of self.new).changes ≡ raised 1 (memory_of self.old).changes }
+        ensures writes { (memory_of self.old).on ≡ true → (memory_of self.new).writes ≡ raised 1 (memory_of self.old).writes }
+        ensures erases { (memory_of self.new).erases ≡ (memory_of self.old).erases }
     {
         if !self.on {
             return Err(FlashFault::Off);
         }
-        self.changes = self.changes.saturating_add(1);
+        self.writes = self.writes.saturating_add(1);
         let counted = is_write_counted(self.geometry, &self.arm, at, bytes);
         match strike(&mut self.arm, counted, false) {
             None => {
@@ -257,12 +270,13 @@ impl Flash for MemFlash {
         ensures left { (memory_of self.old).on ≡ true → IfSome (struck_by (erase_counts (memory_of self.old) page) false (memory_of self.old).arm)
             (λ arm. area (page * (memory_of self.old).geometry.page) (memory_of self.old).geometry.page (memory_of self.new).bytes ≡ left_erased arm.left (area (page * (memory_of self.old).geometry.page) (memory_of self.old).geometry.page (memory_of self.old).bytes)) }
         ensures faults { (memory_of self.new).faults ≡ faults_after (end_of Erase result) (memory_of self.old).faults }
-        ensures changes { (memory_of self.old).on ≡ true → (memory_of self.new).changes ≡ raised 1 (memory_of self.old).changes }
+        ensures erases { (memory_of self.old).on ≡ true → (memory_of self.new).erases ≡ raised 1 (memory_of self.old).erases }
+        ensures writes { (memory_of self.new).writes ≡ (memory_of self.old).writes }
     {
         if !self.on {
             return Err(FlashFault::Off);
         }
-        self.changes = self.changes.saturating_add(1);
+        self.erases = self.erases.saturating_add(1);
         let at = page * self.geometry.page;
         let counted = is_counted(self.geometry, &self.arm, at);
         let size = self.geometry.page as usize;

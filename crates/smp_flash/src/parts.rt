@@ -1,6 +1,6 @@
 // What an operation leaves in a part of the bytes.
 ghost use Rattle.std.specs.Prelude.{◌≡◌, ◌+◌, ◌≤◌, ◌^◌, length, nat_le, if◌then◌else◌};
-ghost use Rattle.smp_flash.specs.Area.{area, blank, spot, Keeps, Holds, Fades, Erased};
+ghost use Rattle.smp_flash.specs.Area.{AreBytes, area, blank, spot, Keeps, Holds, Fades, Erased};
 ghost use Rattle.smp_flash.specs.Arm.{left_written, left_erased};
 ghost use Rattle.smp_flash.specs.Remains.{next, noise, faded_by};
 
@@ -52,7 +52,8 @@ pub fn clear(part: &mut [u8])
 /// Writes the bytes at this place.
 pub fn put(held: &mut [u8], at: usize, bytes: &[u8])
     requires { at + length bytes.now ≤ length held.old }
-    ensures { Holds at bytes.now held.old held.new }
+    ensures holds { Holds at bytes.now held.old held.new }
+    ensures bytes { AreBytes held.new }
 {
     held[at..at + bytes.len()].copy_from_slice(bytes);
 }
@@ -61,6 +62,7 @@ pub fn put(held: &mut [u8], at: usize, bytes: &[u8])
 pub fn put_in_part(held: &mut [u8], at: usize, bytes: &[u8], left: Left)
     requires { at + length bytes.now ≤ length held.old }
     ensures keeps { Keeps (spot at (length bytes.now)) held.old held.new }
+    ensures bytes { AreBytes held.new }
     ensures left { area at (length bytes.now) held.new ≡ left_written left (area at (length bytes.now) held.old) bytes.now }
 {
     match left {
@@ -73,7 +75,8 @@ pub fn put_in_part(held: &mut [u8], at: usize, bytes: &[u8], left: Left)
 /// Erases the bytes of a page.
 pub fn wipe(held: &mut [u8], at: usize, size: usize)
     requires { at + size ≤ length held.old }
-    ensures { Erased at size held.old held.new }
+    ensures erased { Erased at size held.old held.new }
+    ensures bytes { AreBytes held.new }
 {
     clear(&mut held[at..at + size]);
 }
@@ -82,6 +85,7 @@ pub fn wipe(held: &mut [u8], at: usize, size: usize)
 pub fn wipe_in_part(held: &mut [u8], at: usize, size: usize, left: Left)
     requires { at + size ≤ length held.old }
     ensures fades { Fades at size held.old held.new }
+    ensures bytes { AreBytes held.new }
     ensures left { area at size held.new ≡ left_erased left (area at size held.old) }
 {
     match left {

@@ -1,6 +1,6 @@
 // A flash in memory that never fails and is always on.
 ghost use Rattle.std.specs.Prelude.{◌≡◌, ◌≢◌, ◌+◌, ◌*◌, ◌%◌, ◌≤◌, IsTrue, IfOk, OnOk, OnErr, IfSome, None, true, false, length};
-ghost use Rattle.smp_flash.specs.Area.{area, blank, spot, Keeps, Holds, Fades, Erased, Faded, Told};
+ghost use Rattle.smp_flash.specs.Area.{AreBytes, area, blank, spot, Keeps, Holds, Fades, Erased, Faded, Told};
 ghost use Rattle.smp_flash.specs.Calls.{Reads, Writes, Erases, Prepares};
 ghost use Rattle.smp_flash.specs.Geometry.{is_lawful, size_of};
 ghost use Rattle.smp_flash.specs.State.{end_of};
@@ -18,14 +18,16 @@ pub struct SteadyFlash {
     geometry: Geometry,
     held: Vec<u8>,
     failed_creates: u64,
-    changes: u64,
+    writes: u64,
+    erases: u64,
     bytes_read: u64,
     ghost lawful: { IsTrue (is_lawful geometry) },
     ghost sized: { length held.items ≡ size_of geometry },
+    ghost bytes: { AreBytes held.items },
 }
 
 impl SteadyFlash {
-    ghost use Rattle.smp_flash.specs.Memory.{steady_memory, fresh};
+    ghost use Rattle.smp_flash.specs.Memory.{steady_memory, fresh, changes_of};
 
     /// A flash that is all FF, with nothing counted.
     pub fn new(alloc: Global, geometry: Geometry) -> Result<SteadyFlash, AllocError>
@@ -37,7 +39,8 @@ impl SteadyFlash {
             geometry,
             held,
             failed_creates: 0,
-            changes: 0,
+            writes: 0,
+            erases: 0,
             bytes_read: 0,
         })
     }
@@ -56,9 +59,16 @@ impl SteadyFlash {
 
     /// How many writes and erases there were. The number stays at the greatest u64.
     pub fn changes(&self) -> u64
-        ensures { result ≡ (steady_memory self.now).changes }
+        ensures { result ≡ changes_of (steady_memory self.now) }
     {
-        self.changes
+        self.writes.saturating_add(self.erases)
+    }
+
+    /// How many of these were erases. The number stays at the greatest u64.
+    pub fn erases(&self) -> u64
+        ensures { result ≡ (steady_memory self.now).erases }
+    {
+        self.erases
     }
 
     /// How many bytes were asked for by reads. The number stays at the greatest u64.
@@ -77,6 +87,8 @@ impl Flash for SteadyFlash {
     ghost lawful = { λ s. s.lawful };
 
     ghost sized = { λ s. s.sized };
+
+    ghost bytes = { λ s. s.bytes };
 
     fn attach(&mut self, _name: &str) -> Result<(), FlashFault>
         ensures prepares { Prepares (end_of Read result) (steady_state self.old) (steady_state self.new) }
@@ -135,9 +147,10 @@ impl Flash for SteadyFlash {
         ensures ok { OnOk result (Told (Holds at bytes.now) (steady_state self.old).bytes (steady_state self.new).bytes) }
         ensures err { OnErr result (Told (Keeps (spot at (length bytes.now))) (steady_state self.old).bytes (steady_state self.new).bytes) }
         ensures end { end_of Write result ≡ Went }
-        ensures changes { (steady_memory self.new).changes ≡ raised 1 (steady_memory self.old).changes }
+        ensures writes { (steady_memory self.new).writes ≡ raised 1 (steady_memory self.old).writes }
+        ensures erases { (steady_memory self.new).erases ≡ (steady_memory self.old).erases }
     {
-        self.changes = self.changes.saturating_add(1);
+        self.writes = self.writes.saturating_add(1);
         put(&mut self.held, at as usize, bytes);
         Ok(())
     }
@@ -148,9 +161,10 @@ impl Flash for SteadyFlash {
         ensures ok { OnOk result (Told (Erased (page * (steady_state self.old).geometry.page) (steady_state self.old).geometry.page) (steady_state self.old).bytes (steady_state self.new).bytes) }
         ensures err { OnErr result (Told (Fades (page * (steady_state self.old).geometry.page) (steady_state self.old).geometry.page) (steady_state self.old).bytes (steady_state self.new).bytes) }
         ensures end { end_of Erase result ≡ Went }
-        ensures changes { (steady_memory self.new).changes ≡ raised 1 (steady_memory self.old).changes }
+        ensures erases { (steady_memory self.new).erases ≡ raised 1 (steady_memory self.old).erases }
+        ensures writes { (steady_memory self.new).writes ≡ (steady_memory self.old).writes }
     {
-        self.changes = self.changes.saturating_add(1);
+        self.erases = self.erases.saturating_add(1);
         let at = page * self.geometry.page;
         wipe(&mut self.held, at as usize, self.geometry.page as usize);
         Ok(())

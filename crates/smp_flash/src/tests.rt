@@ -18,6 +18,15 @@ const SIZES: Geometry = Geometry {
     page: 512,
     unit: 8,
     slot_pages: 16,
+    images: 1,
+};
+
+/// The same sizes for two images.
+const TWO: Geometry = Geometry {
+    page: 512,
+    unit: 8,
+    slot_pages: 16,
+    images: 2,
 };
 
 const BYTES: [u8; 8] = [1, 2, 3, 4, 5, 6, 7, 8];
@@ -170,54 +179,75 @@ fn both_flashes_in_memory_go_round(rt: HostRuntime) -> Result<(), Fail> {
     assert!(rt; memory.is_on() && steady.is_on());
     assert_eq!(rt; (memory.changes(), memory.read_bytes()), (3, 1032));
     assert_eq!(rt; (steady.changes(), steady.read_bytes()), (3, 1032));
+    assert_eq!(rt; (memory.erases(), steady.erases()), (2, 2));
 
     let other = Geometry {
         page: 1024,
         unit: 1,
         slot_pages: 4,
+        images: 1,
     };
     assert_eq!(rt; memory.create("other", other), Err(FlashFault::Fault));
     assert_eq!(rt; steady.create("other", other), Err(FlashFault::Fault));
     Ok(())
 }
 
+/// The regions of a layout, in the order of the table.
+fn regions(layout: &Layout) -> [Area; 7] {
+    [
+        layout.slot(0),
+        layout.slot(1),
+        layout.progress().first,
+        layout.progress().second,
+        layout.scratch(),
+        layout.settings().first,
+        layout.settings().second,
+    ]
+}
+
 #[test]
-fn a_layout_has_the_places_of_the_table(rt: HostRuntime) {
-    let layout = Layout::of(SIZES);
-    let rows = [
-        (layout.slot(0), 0, 8192),
-        (layout.slot(1), 8192, 8192),
-        (layout.progress().first, 16384, 4096),
-        (layout.progress().second, 20480, 4096),
-        (layout.scratch(), 24576, 512),
-        (layout.settings().first, 25088, 4096),
-        (layout.settings().second, 29184, 4096),
-    ];
-    for (area, at, length) in rows {
-        assert_eq!(rt; area, Area { at, length });
+fn layouts_have_the_places_of_the_table(rt: HostRuntime) {
+    let lengths = [8192, 8192, 4096, 4096, 512, 4096, 4096];
+    let first = [0, 8192, 16384, 20480, 24576, 25088, 29184];
+    let second = [33280, 41472, 49664, 53760, 57856, 25088, 29184];
+    let layout = Layout::of(TWO);
+    let other = Layout::second(TWO).unwrap_or(layout);
+    for (layout, places) in [(layout, first), (other, second)] {
+        for (area, (at, length)) in regions(&layout)
+            .into_iter()
+            .zip(places.into_iter().zip(lengths))
+        {
+            assert_eq!(rt; area, Area { at, length });
+        }
+        assert_eq!(rt; layout.size(), 58368);
+        assert_eq!(rt; layout.geometry(), TWO);
     }
-    assert_eq!(rt; layout.size(), 33280);
-    assert_eq!(rt; layout.geometry(), SIZES);
+    assert_eq!(rt; (layout.image(), other.image()), (0, 1));
+    assert_eq!(rt; Layout::of(SIZES).size(), 33280);
+    assert!(rt; Layout::second(SIZES).is_none());
     assert_eq!(rt; GATE.as_slice(), b"GATEGATE".as_slice());
 }
 
 #[test]
 fn lawful_sizes_are_those_of_the_table(rt: HostRuntime) {
     let rows = [
-        (512, 8, 4, true),
-        (4096, 1, 1024, true),
-        (1024, 2, 16, true),
-        (2048, 4, 16, true),
-        (256, 8, 4, false),
-        (512, 3, 4, false),
-        (512, 8, 3, false),
-        (512, 8, 1025, false),
+        (512, 8, 4, 1, true),
+        (4096, 1, 1024, 2, true),
+        (1024, 2, 16, 1, true),
+        (2048, 4, 16, 2, true),
+        (256, 8, 4, 1, false),
+        (512, 3, 4, 1, false),
+        (512, 8, 3, 1, false),
+        (512, 8, 1025, 1, false),
+        (512, 8, 4, 0, false),
+        (512, 8, 4, 3, false),
     ];
-    for (page, unit, slot_pages, lawful) in rows {
+    for (page, unit, slot_pages, images, lawful) in rows {
         let sizes = Geometry {
             page,
             unit,
             slot_pages,
+            images,
         };
         assert_eq!(rt; sizes.is_lawful(), lawful, "{sizes:?}");
     }

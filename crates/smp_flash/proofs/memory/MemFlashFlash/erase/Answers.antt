@@ -1,4 +1,4 @@
-use Rattle.std.proofs.Common.{refl, ap, inr, Some, ◌*◌}
+use Rattle.std.proofs.Common.{arith, refl, ap, inr, Some, ◌*◌}
 use Rattle.smp_flash.specs.Region.{counts}
 use Rattle.smp_flash.proofs.Areas.{Fades-refl}
 use Rattle.smp_flash.proofs.Arms.{Acts-went, change_told}
@@ -11,5 +11,6 @@ returns-then-not-self-clause-err c = Fades-refl _ _ _
 pub returns-in-None-clause-acts : goal.returns-in-None-clause-acts
 returns-in-None-clause-acts c =
     let u = change_told _ _ _ _ _ c.args.self.now.armed c.is_counted-counted.ensures c.strike.ensures.struck c.in-None.is c.strike.ensures.rest in
-    Acts-went _ _ _ _ _ refl refl refl c.if-not-self.false (ap Some u.troubles) u.aim u.spends (λ e. e)
+    Acts-went _ _ _ _ _ _ refl refl refl c.if-not-self.false (ap Some u.troubles) u.aim u.spends (λ e. e)
     (λ e. inr (ap (λ aim. counts c.args.self.now.geometry aim (c.args.page * c.args.self.now.geometry.page)) e)) (reads_none (Some c.args.self.now.bytes_read))
+    (omega arith, omega arith, omega (arith, c.saturating_add-self.ensures), omega (arith, c.saturating_add-self.ensures))
