@@ -5,10 +5,10 @@ use Rattle.std.specs.Str.{bytes_eq}
 use Rattle.std.specs.Cmp.Derive.{both_true}
 use Rattle.std.proofs.lemmas.Bool.Decides.{nat_tests}
 use Rattle.smp_flash.specs.Area.{Clear, spot}
-use Rattle.smp_flash.specs.Geometry.{slot_size, side_size, first_size, second_size, of_second, size_of, IsPage, Regular}
+use Rattle.smp_flash.specs.Geometry.{slot_size, side_size, first_size, second_size, size_of, IsPage, Regular}
 use Rattle.smp_flash.specs.declared.geometry.Geometry.{Geometry}
 use Rattle.smp_flash.specs.declared.region.Region.{Region}
-use Rattle.smp_flash.specs.Layout.{geometry_of, image_of, slot_of, bank_spots, settings_of, upload_spots, area_spot, image_spots, region_spots, Parted, WholePages, Arranged, ArrangedTogether, CountsInBank, CountsInRegions, in_upload, in_settings, in_primary, SparesOthers}
+use Rattle.smp_flash.specs.Layout.{geometry_of, image_of, slot_of, bank_spots, settings_of, upload_spots, area_spot, image_spots, region_spots, Parted, WholePages, Arranged, ArrangedTogether, CountsInRegions, in_upload, in_settings, in_primary, SparesOthers}
 use Rattle.smp_flash.specs.Region.{gate, within, is_any, is_gate, begins_in, counts, counts_write, Spares, start_of, slot_at, progress_at, scratch_at, settings_at, region_at, region_size, slot_region, progress_region, progress_gate_region}
 use Rattle.smp_flash.specs.declared.layout.Layout.{Layout}
 use Rattle.smp_flash.specs.declared.region.Region.TheVariants.{Any, Slot0, Slot1, Progress, Scratch, Settings, ProgressGate, SettingsGate, Slot2, Slot3, Progress2, Progress2Gate, Scratch2}
@@ -259,10 +259,16 @@ counted_in layout =
       slot = λ n at bytes le low high.
           (let p = slot_place g image n layout.there r le in
           counts_at g (slot_region image n) at bytes (omega (arith, p.0, low)) (omega (arith, p.0, p.1, high)) p.2);
-      progress = λ at low high. counts_gate g (progress_region image) at (omega (arith, b.0, low)) (omega (arith, b.0, b.1, high));
-      progress_gate = λ at low high. counts_gate g (progress_gate_region image) at (omega (arith, b.2, low)) (omega (arith, b.2, b.3, high));
-      settings = λ at low high. counts_gate g Settings at low high;
-      settings_gate = λ at low high. counts_gate g SettingsGate at low high;
+      progress = (
+        (λ at low high. counts_gate g (progress_region image) at (omega (arith, b.0, low)) (omega (arith, b.0, b.1, high))),
+        (λ at low high. counts_gate g (progress_region image) at (omega (arith, b.0, low)) (omega (arith, b.0, b.1, high))),
+      );
+      progress_gate = (
+        (λ at low high. counts_gate g (progress_gate_region image) at (omega (arith, b.2, low)) (omega (arith, b.2, b.3, high))),
+        (λ at low high. counts_gate g (progress_gate_region image) at (omega (arith, b.2, low)) (omega (arith, b.2, b.3, high))),
+      );
+      settings = ((λ at low high. counts_gate g Settings at (omega arith) (omega arith)), (λ at low high. counts_gate g Settings at (omega arith) (omega arith)));
+      settings_gate = ((λ at low high. counts_gate g SettingsGate at (omega arith) (omega arith)), (λ at low high. counts_gate g SettingsGate at (omega arith) (omega arith)));
     }
 
 -- the secondary slot, the progress bank and the scratch page of an image lie apart from every region that is not theirs

@@ -3,6 +3,7 @@ pub mod Areas
 pub mod Arms
 pub mod Layouts
 pub mod Passing
+pub mod Pieces
 pub mod Places
 pub mod Remains
 pub mod Sizes

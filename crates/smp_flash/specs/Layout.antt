@@ -78,13 +78,13 @@ pub record Arranged (layout : Layout) : Type 0 where
 pub record ArrangedTogether (first second : Layout) : Type 0 where
   pub apart : Parted (image_spots first ++ region_spots second)
 
--- a write of the gate at either side of the bank counts in the aim
-abbrev pub CountsGates : Geometry → Option Region → BankPlace → Type 0
-CountsGates g aim place = (counts_write g aim place.first.at gate ≡ true) × (counts_write g aim place.second.at gate ≡ true)
+-- a write of a gate that begins on a side counts in the aim
+abbrev pub CountsOnSide : Geometry → Option Region → ℕ → Type 0
+CountsOnSide g aim side = (at : ℕ) → side ≤ at → at < side + side_size → counts_write g aim at gate ≡ true
 
--- A write of the gate anywhere on either side of the bank counts in the aim: the gates of its cells stand there.
+-- a write of a gate that begins on either side of the bank counts in the aim: of the side's own gate, and of a cell's
 abbrev pub CountsInBank : Geometry → Option Region → BankPlace → Type 0
-CountsInBank g aim place = (at : ℕ) → place.first.at ≤ at → at < place.first.at + 2 * side_size → counts_write g aim at gate ≡ true
+CountsInBank g aim place = CountsOnSide g aim place.first.at × CountsOnSide g aim place.second.at
 
 -- What begins in a region of the image counts there.
 pub record CountsInRegions (layout : Layout) : Type 0 where

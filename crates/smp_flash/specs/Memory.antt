@@ -4,7 +4,7 @@ use Rattle.smp_flash.specs.Area.{blank}
 use Rattle.smp_flash.specs.Arm.{troubles_of, aim_of, patience_of}
 use Rattle.smp_flash.specs.Geometry.{size_of}
 use Rattle.smp_flash.specs.Region.{counts, counts_write}
-use Rattle.smp_flash.specs.State.{Faults, Changes, FlashState, End}
+use Rattle.smp_flash.specs.State.{Faults, FlashState, End}
 use Rattle.smp_flash.specs.State.End.{Went, WentOff, Failed}
 use Rattle.smp_flash.specs.declared.flash.Operation.TheVariants.{Read, Write, Erase}
 use Rattle.smp_flash.specs.declared.arm.Arm.{Arm}

@@ -2,7 +2,7 @@
 ghost use Rattle.std.specs.Prelude.{◌≡◌, ◌≢◌, ◌+◌, ◌*◌, ◌%◌, ◌<◌, ◌≤◌, ◌↔◌, length, true, false, None, IfOk, OnOk, OnErr, IfSome, IsTrue};
 ghost use Rattle.smp_flash.specs.Area.{area, blank, dirty, spot, Keeps, Holds, Fades, Erased, Told};
 ghost use Rattle.smp_flash.specs.Calls.{Calls, ReadsAtMost, ChangesAtMost, Smaller};
-ghost use Rattle.smp_flash.specs.Geometry.{is_lawful, size_of, Regular};
+ghost use Rattle.smp_flash.specs.Geometry.{is_lawful, size_of, IsPage, Regular};
 ghost use Rattle.smp_flash.specs.Region.{counts, counts_write};
 ghost use Rattle.smp_flash.specs.State.{FlashState, ended, call_fault};
 ghost use Rattle.smp_flash.specs.State.End.{WentOff};
@@ -141,7 +141,36 @@ pub fn reads_erased<F: Flash>(
     Ok(is_erased(into))
 }
 
-/// Erases the page that begins there, where it is not erased already. It is read into the front of `buffer`.
+/// How many bytes of a page are read at once.
+const PIECE: u32 = 512;
+
+/// Reads a page piece by piece into `piece`, up to one with a byte that is not FF, and says whether all are erased.
+fn is_page_erased<F: Flash>(
+    flash: &mut F,
+    at: u32,
+    size: u32,
+    piece: &mut [u8],
+) -> Result<bool, CallFault>
+    requires room { length piece.old ≡ 512 }
+    requires page { IsPage size }
+    requires inside { at + size ≤ size_of (F.state flash.old).geometry }
+    ensures calls { Calls (spot at size) (ended result) (F.state flash.old) (F.state flash.new) }
+    ensures kept { (F.state flash.new).bytes ≡ (F.state flash.old).bytes }
+    ensures reads { ReadsAtMost size (F.state flash.old).bytes_read (F.state flash.new).bytes_read }
+    ensures changes { ChangesAtMost 0 0 (F.state flash.old).changes (F.state flash.new).changes }
+    ensures unspent { OnOk result ((F.state flash.new).patience ≡ (F.state flash.old).patience) }
+    ensures erased { IfOk result (λ erased. IfSome (F.state flash.old).bytes (λ held. IsTrue erased ↔ (area at size held ≡ blank size))) }
+{
+    for i in 0..size / PIECE {
+        if !reads_erased(flash, at + i * PIECE, PIECE, piece)? {
+            return Ok(false);
+        }
+    }
+    Ok(true)
+}
+
+/// Erases the page that begins there, where it is not erased already. It is read piece by piece into the first 512 bytes of
+/// `buffer`, up to the first byte that is not FF.
 pub fn clear_page<F: Flash>(
     flash: &mut F,
     at: u32,
@@ -149,8 +178,8 @@ pub fn clear_page<F: Flash>(
     buffer: &mut [u8],
 ) -> Result<(), CallFault>
     requires size { size ≡ (F.state flash.old).geometry.page }
-    requires some { 0 < size }
-    requires room { size ≤ length buffer.old }
+    requires page { IsPage size }
+    requires room { 512 ≤ length buffer.old }
     requires begin { at % size ≡ 0 }
     requires inside { at + size ≤ size_of (F.state flash.old).geometry }
     ensures calls { Calls (spot at size) (ended result) (F.state flash.old) (F.state flash.new) }
@@ -164,7 +193,7 @@ pub fn clear_page<F: Flash>(
     ensures erases { IfSome (F.state flash.old).bytes (λ held. ChangesAtMost 0 (dirty size (area at size held)) (F.state flash.old).changes (F.state flash.new).changes) }
     ensures unspent { OnOk result (IfSome (F.state flash.old).bytes (λ held. area at size held ≡ blank size → (F.state flash.new).patience ≡ (F.state flash.old).patience)) }
 {
-    if reads_erased(flash, at, size, &mut buffer[..size as usize])? {
+    if is_page_erased(flash, at, size, &mut buffer[..PIECE as usize])? {
         return Ok(());
     }
     erase_page(flash, at, size)

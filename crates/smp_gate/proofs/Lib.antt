@@ -1,3 +1,4 @@
+pub mod Cells
 pub mod Clearing
 pub mod Lasting
 pub mod Opening

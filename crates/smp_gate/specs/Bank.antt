@@ -1,16 +1,19 @@
 -- What a bank's value says, and what the bytes have to be for it.
-use Rattle.std.specs.Prelude.{◌≡◌, ◌-◌, ◌≤◌, ℕ, Bool, true, false, List, Some}
+use Rattle.std.specs.Prelude.{◌≡◌, ◌+◌, ◌-◌, ◌*◌, ◌≤◌, ℕ, Bool, true, false, List, length, Some}
 use Rattle.smp_flash.specs.Area.{area}
 use Rattle.smp_flash.specs.declared.layout.BankPlace.{BankPlace}
-use Rattle.smp_gate.specs.Side.{valid_side, AtMost}
+use Rattle.smp_gate.specs.Side.{valid_side, length_in, AtMost}
+use Rattle.smp_gate.specs.Cells.{span, cells_at, Used}
 
--- What a bank's value says: where it lies, the length of its cells, which side is the newest and of which generation, and
--- whether that is sure.
+-- What a bank's value says: where it lies, the length of its cells, which side is the newest and of which generation, the
+-- length of that side's body, whether the gate of each cell that was begun behind it stands, and whether all that is sure.
 pub record BankState : Type 0 where
   pub place : BankPlace
   pub cell : ℕ
   pub second : Bool
   pub generation : ℕ
+  pub size : ℕ
+  pub gates : List Bool
   pub sure : Bool
 
 -- where the newest side begins, by whether it is the second one, and the other side
@@ -37,3 +40,9 @@ pub record Stands (place : BankPlace) (second : Bool) (generation : ℕ) (body b
 pub record BankSays (bank : BankState) (bytes : List ℕ) : Type 0 where
   pub body : List ℕ
   pub stands : Stands bank.place bank.second bank.generation body bytes
+  pub size : length_in (area (current bank.place bank.second) 16 bytes) ≡ bank.size
+  pub used : Used bank.cell bank.size bank.gates (area (current bank.place bank.second) 4096 bytes)
+
+-- where the next cell goes
+abbrev pub next_cell : BankState → ℕ
+next_cell bank = current bank.place bank.second + (cells_at bank.size + length bank.gates * span bank.cell)

@@ -1,4 +1,5 @@
 pub mod Bank
+pub mod Cells
 pub mod Fault
 pub mod Head
 pub mod Newest

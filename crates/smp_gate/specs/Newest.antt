@@ -1,10 +1,11 @@
 -- What a bank holds by its bytes: the newest of its two sides, the content, and how the generation moves.
-use Rattle.std.specs.Prelude.{◌≡◌, ◌⊎◌, ◌+◌, ◌≤◌, ◌%◌, ℕ, if◌then◌else◌, nat_lt, List, [], ◌∷◌, Option, Some, None}
+use Rattle.std.specs.Prelude.{◌≡◌, ◌≢◌, ◌⊎◌, ◌+◌, ◌-◌, ◌*◌, ◌≤◌, ◌%◌, ℕ, if◌then◌else◌, nat_lt, List, [], ◌∷◌, ◌++◌, take, Option, Some, None}
 use Rattle.smp_flash.specs.Area.{area, blank}
 use Rattle.smp_flash.specs.Geometry.{size_of}
 use Rattle.smp_flash.specs.declared.geometry.Geometry.{Geometry}
 use Rattle.smp_flash.specs.declared.layout.BankPlace.{BankPlace}
-use Rattle.smp_gate.specs.Side.{ValidSide, valid_side}
+use Rattle.smp_gate.specs.Side.{ValidSide, valid_side, length_in}
+use Rattle.smp_gate.specs.Cells.{span, cells_at, places, cells_in}
 
 -- the sides don't overlap
 abbrev pub Apart : BankPlace → Type 0
@@ -35,7 +36,7 @@ newest (Some x) (Some y) = if nat_lt x.generation y.generation then Some y else 
 abbrev pub newest_side : BankPlace → List ℕ → Option ValidSide
 newest_side place bytes = newest (valid_side (area place.first.at 4096 bytes)) (valid_side (area place.second.at 4096 bytes))
 
--- What a bank stands for: a body, and a list of cells. No call adds a cell yet, so the list is empty.
+-- What a bank stands for: a body, and the cells behind it that count.
 pub record Content : Type 0 where
   pub body : List ℕ
   pub cells : List (List ℕ)
@@ -44,13 +45,56 @@ pub record Content : Type 0 where
 abbrev pub just : List ℕ → Content
 just body = record { body = body; cells = [] }
 
-abbrev pub content_in : Option ValidSide → Option Content
-content_in None = None
-content_in (Some side) = Some (just side.body)
+-- the bytes of the newest of two sides
+abbrev pub newer : Option ValidSide → Option ValidSide → List ℕ → List ℕ → Option (List ℕ)
+newer None None a b = None
+newer None (Some y) a b = Some b
+newer (Some x) None a b = Some a
+newer (Some x) (Some y) a b = if nat_lt x.generation y.generation then Some b else Some a
+
+-- the bytes of the bank's newest side
+abbrev pub newest_bytes : BankPlace → List ℕ → Option (List ℕ)
+newest_bytes place bytes = newer (valid_side (area place.first.at 4096 bytes)) (valid_side (area place.second.at 4096 bytes))
+    (area place.first.at 4096 bytes) (area place.second.at 4096 bytes)
+
+abbrev pub content_by : ℕ → Option ValidSide → List ℕ → Option Content
+content_by cell None side = None
+content_by cell (Some found) side = Some (record { body = found.body; cells = cells_in cell (length_in (take 16 side)) side })
+
+abbrev pub content_in : ℕ → Option (List ℕ) → Option Content
+content_in cell None = None
+content_in cell (Some side) = content_by cell (valid_side side) side
 
 -- the content of a bank, for cells of this length: none where no side is valid
 abbrev pub content_of : BankPlace → ℕ → List ℕ → Option Content
-content_of place cell bytes = content_in (newest_side place bytes)
+content_of place cell bytes = content_in cell (newest_bytes place bytes)
+
+-- the content is what it was, or this
+abbrev pub SameOrThis : BankPlace → ℕ → Content → List ℕ → List ℕ → Type 0
+SameOrThis place cell content old new = (content_of place cell new ≡ content_of place cell old) ⊎ (content_of place cell new ≡ Some content)
+
+-- the content has this cell more
+abbrev pub Added : BankPlace → ℕ → List ℕ → List ℕ → List ℕ → Type 0
+Added place cell bytes old new = (c : Content) → content_of place cell old ≡ Some c
+    → content_of place cell new ≡ Some (record { body = c.body; cells = c.cells ++ (bytes ∷ []) })
+
+-- the content is what it was, or has this cell more
+abbrev pub SameOrAdded : BankPlace → ℕ → List ℕ → List ℕ → List ℕ → Type 0
+SameOrAdded place cell bytes old new = (content_of place cell new ≡ content_of place cell old) ⊎ Added place cell bytes old new
+
+-- the newest side has the generation and the body that it had
+abbrev pub SameNewest : BankPlace → List ℕ → List ℕ → Type 0
+SameNewest place old new = newest_side place new ≡ newest_side place old
+
+-- the side has no cell, or its last cell isn't all FF
+abbrev pub FullSide : ℕ → Option (List ℕ) → Type 0
+FullSide cell None = ⊥
+FullSide cell (Some side) = (places cell (length_in (take 16 side)) ≡ 0)
+    ⊎ (area (cells_at (length_in (take 16 side)) + (places cell (length_in (take 16 side)) - 1) * span cell) (span cell) side ≢ blank (span cell))
+
+-- so it is of the newest side
+abbrev pub IsFull : BankPlace → ℕ → List ℕ → Type 0
+IsFull place cell bytes = FullSide cell (newest_bytes place bytes)
 
 abbrev pub generation_by : Option ValidSide → ℕ
 generation_by None = 0

@@ -34,6 +34,7 @@ fn sizes(page: u32, unit: u32) -> Geometry
         page,
         unit,
         slot_pages: 16,
+        images: 1,
     }
 }
 

@@ -61,6 +61,7 @@ const SIZES: Geometry = Geometry {
     page: 512,
     unit: 8,
     slot_pages: 16,
+    images: 1,
 };
 
 /// An image in slot 1 is read there, and a read that is struck is passed on.
