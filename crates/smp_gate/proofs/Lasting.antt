@@ -1,9 +1,10 @@
 -- What a change elsewhere keeps of a bank, and how its generation moves over two changes.
-use Rattle.std.proofs.Common.{◌≡◌, ℕ, ◌+◌, Bool, true, false, Some, List, sym, ◌∙◌, ap, subst, arith}
+use Rattle.std.proofs.Common.{◌≡◌, ℕ, ◌+◌, Bool, true, false, Some, List, take, sym, ◌∙◌, ap, subst, arith}
 use Rattle.smp_flash.specs.Area.{area, Clear, Keeps}
 use Rattle.smp_flash.specs.declared.layout.BankPlace.{BankPlace}
-use Rattle.smp_gate.specs.Side.{valid_side, AtMost}
-use Rattle.smp_gate.specs.Newest.{newest, newest_side, newest_generation, generation_by, content_of, content_in, just, AgesAtMost}
+use Rattle.smp_gate.specs.Side.{valid_side, length_in, AtMost}
+use Rattle.smp_gate.specs.Cells.{Used}
+use Rattle.smp_gate.specs.Newest.{newest, newest_side, newest_generation, generation_by, newer, content_of, content_in, AgesAtMost}
 use Rattle.smp_gate.specs.Bank.{BankState, BankSays, bar, current, other}
 use Rattle.smp_gate.proofs.Sides.{newest-Stands}
 
@@ -26,6 +27,8 @@ says_kept bank spots old new a b keeps says = record {
     behind = subst (AtMost (bar bank.second bank.generation)) (sym (ap valid_side (other_kept bank.place bank.second spots old new a b keeps))) says.stands.behind;
     positive = says.stands.positive;
   };
+  size = ap (λ (side : List ℕ). length_in (take 16 side)) (current_kept bank.place bank.second spots old new a b keeps) ∙ says.size;
+  used = subst (λ (side : List ℕ). Used bank.cell bank.size bank.gates side) (sym (current_kept bank.place bank.second spots old new a b keeps)) says.used;
 }
 
 pub newest_kept : (place : BankPlace) (spots : List (ℕ × ℕ)) (old new : List ℕ) → Clear spots place.first.at 4096 → Clear spots place.second.at 4096
@@ -36,8 +39,13 @@ newest_kept place spots old new a b keeps =
 pub says_generation : (bank : BankState) (bytes : List ℕ) → BankSays bank bytes → newest_generation bank.place bytes ≡ bank.generation
 says_generation bank bytes says = ap generation_by (newest-Stands bank.place bank.second bank.generation says.body bytes says.stands)
 
-pub says_content : (bank : BankState) (bytes : List ℕ) (says : BankSays bank bytes) → content_of bank.place bank.cell bytes ≡ Some (just says.body)
-says_content bank bytes says = ap content_in (newest-Stands bank.place bank.second bank.generation says.body bytes says.stands)
+-- the whole content stays
+pub content_kept : (place : BankPlace) (cell : ℕ) (spots : List (ℕ × ℕ)) (old new : List ℕ) → Clear spots place.first.at 4096 → Clear spots place.second.at 4096
+    → Keeps spots old new → content_of place cell new ≡ content_of place cell old
+content_kept place cell spots old new a b keeps =
+    let x = keeps.apart place.first.at 4096 a in
+    let y = keeps.apart place.second.at 4096 b in
+    (λ i. content_in cell (newer (valid_side (x i)) (valid_side (y i)) (x i) (y i)))
 
 pub ages_sum : (m n : ℕ) (place : BankPlace) (old middle new : List ℕ) → AgesAtMost m place old middle → AgesAtMost n place middle new → AgesAtMost (m + n) place old new
 ages_sum m n place old middle new f g = record { kept = omega (arith, f.kept, g.kept); most = omega (arith, f.most, g.most) }

@@ -1,8 +1,13 @@
-pub mod Cells
+pub mod Adding
+pub mod Contents
+pub mod Ranges
 pub mod Clearing
+pub mod Found
 pub mod Lasting
-pub mod Opening
+pub mod Appending
+pub mod Choosing
 pub mod Placing
 pub mod Renewing
 pub mod Sides
+pub mod Standing
 pub mod Writing

@@ -1,24 +1,26 @@
 -- A side is renewed, and what that does to its bank.
-use Rattle.std.proofs.Common.{◌≡◌, inl, inr, ℕ, ◌+◌, Bool, Option, Some, None, List, drop, refl, sym, ◌∙◌, ap, subst, arith}
+use Rattle.std.proofs.Common.{◌≡◌, inl, inr, ℕ, ◌+◌, Bool, Option, Some, None, List, [], length, ◌≤◌, ◌/◌, drop, refl, sym, ◌∙◌, ap, subst, arith}
 use Rattle.std.specs.Prelude.{IfSome, not, true, false}
-use Rattle.smp_flash.specs.Area.{area, blank, spot, Clear, Erased, Told, Keeps}
+use Rattle.smp_flash.specs.Area.{area, blank, dirty_pages, spot, Clear, Erased, Told, Keeps}
 use Rattle.std.proofs.lemmas.List.{take-take}
 use Rattle.smp_flash.specs.Region.{Spares, counts_write}
-use Rattle.smp_flash.specs.State.{FlashState, End, fault_end}
-use Rattle.smp_flash.specs.Calls.{Goes, Smaller, Calls}
+use Rattle.smp_flash.specs.State.{FlashState, Changes, End, fault_end}
+use Rattle.smp_flash.specs.Calls.{Goes, Smaller, Calls, ChangesAtMost}
 use Rattle.smp_flash.proofs.Areas.{Keeps-trans, blank_first}
-use Rattle.smp_flash.proofs.Passing.{Covers, Calls-wider, then_Smaller}
+use Rattle.smp_flash.proofs.Passing.{Covers, Calls-wider, then_Smaller, changes_add}
 use Rattle.smp_flash.proofs.Telling.{Told-map, Told-trans, Told-with, Told-after, IfSome-map}
 use Rattle.smp_flash.specs.declared.layout.BankPlace.{BankPlace}
 use Rattle.smp_gate.specs.declared.fault.BankFault.{BankFault}
+use Rattle.smp_gate.specs.declared.fault.BankFault.TheVariants.{Full}
 use Rattle.smp_flash.specs.declared.flash.CallFault.{CallFault}
 use Rattle.smp_flash.specs.declared.flash.CallFault.TheVariants.{Fault as Faulty, Off as Gone}
 use Rattle.smp_gate.specs.Side.{ValidSide, valid_side, AtMost, whole_side}
-use Rattle.smp_gate.specs.Newest.{Apart, sides, newest, newest_side, content_of, content_in, just, newest_generation, generation_by, AgesAtMost, OldOrNew, Fresh, SameSide}
+use Rattle.smp_gate.specs.Newest.{Apart, sides, newest, newest_side, content_of, just, newest_generation, generation_by, AgesAtMost, OldOrNew, Fresh, SameSide}
 use Rattle.smp_gate.specs.Bank.{BankState, BankSays, Stands, bar, current, other}
 use Rattle.smp_gate.specs.Step.{Quiet, Renewed, QuietOrRenewed}
 use Rattle.smp_gate.specs.Fault.{bank_fault, bank_fault_end}
-use Rattle.smp_gate.proofs.Sides.{blank_gate, no_generation, newest-Stands, Stands-kept, Stands-new, current_apart}
+use Rattle.smp_gate.proofs.Sides.{blank_gate, no_generation, newest-Stands, Stands-kept, Stands-new, current_apart, flipped_current}
+use Rattle.smp_gate.proofs.Contents.{fresh_says, content_whole}
 
 Quiet-trans : (at : ℕ) (x y z : List ℕ) → Quiet at x y → Quiet at y z → Quiet at x z
 Quiet-trans at x y z f g = record { keeps = Keeps-trans (spot at 4096) x y z f.keeps g.keeps; most = λ n most. g.most n (f.most n most) }
@@ -26,7 +28,7 @@ Quiet-trans at x y z f g = record { keeps = Keeps-trans (spot at 4096) x y z f.k
 Quiet-then : (at : ℕ) (next : ValidSide) (x y z : List ℕ) → Quiet at x y → QuietOrRenewed at next y z → QuietOrRenewed at next x z
 Quiet-then at next x y z f g = elim g [
   | inl quiet ↦ inl (Quiet-trans at x y z f quiet)
-  | inr renewed ↦ inr (record { keeps = Keeps-trans (spot at 4096) x y z f.keeps renewed.keeps; found = renewed.found })
+  | inr renewed ↦ inr (record { keeps = Keeps-trans (spot at 4096) x y z f.keeps renewed.keeps; found = renewed.found; whole = renewed.whole })
 ]
 
 pub told_Quiet : (at : ℕ) (next : ValidSide) (x y : Option (List ℕ)) → Told (Quiet at) x y → Told (QuietOrRenewed at next) x y
@@ -40,7 +42,7 @@ told_then at next x y z f g = Told-trans (Quiet at) (QuietOrRenewed at next) (Qu
 
 pub told_Renewed : (at : ℕ) (next : ValidSide) (x y z : Option (List ℕ)) → Told (Quiet at) x y → Told (Renewed at next) y z → Told (Renewed at next) x z
 told_Renewed at next x y z f g =
-    Told-trans (Quiet at) (Renewed at next) (Renewed at next) x y z (λ u v w p q. record { keeps = Keeps-trans (spot at 4096) u v w p.keeps q.keeps; found = q.found }) f g
+    Told-trans (Quiet at) (Renewed at next) (Renewed at next) x y z (λ u v w p q. record { keeps = Keeps-trans (spot at 4096) u v w p.keeps q.keeps; found = q.found; whole = q.whole }) f g
 
 pub told_blank : (at : ℕ) (x y : Option (List ℕ)) → Told (Erased at 4096) x y → IfSome y (λ held. area at 4096 held ≡ blank 4096)
 told_blank at None None f = tt
@@ -113,9 +115,17 @@ same_end Gone = refl
 pub passed_Calls : (spots : List (ℕ × ℕ)) (a b : FlashState) (fault : CallFault) (passed : BankFault) → passed ≡ bank_fault fault → Calls spots (fault_end fault) a b → Calls spots (bank_fault_end passed) a b
 passed_Calls spots a b fault passed is f = subst (λ (end : End). Calls spots end a b) (sym (ap bank_fault_end is ∙ same_end fault)) f
 
--- what stands is what the bank's value says
-pub told_says : (bank : BankState) (body : List ℕ) (x : Option (List ℕ)) → IfSome x (Stands bank.place bank.second bank.generation body) → IfSome x (BankSays bank)
-told_says bank body x f = IfSome-map (Stands bank.place bank.second bank.generation body) (BankSays bank) x (λ held s. record { body = body; stands = s }) f
+-- what a bank's value says of a side that was just filled
+pub told_fresh : (bank : BankState) (body : List ℕ) (x : Option (List ℕ)) → length body ≤ 4080 → bank.size ≡ length body → bank.gates ≡ []
+    → IfSome x (Stands bank.place bank.second bank.generation body)
+    → IfSome x (λ held. area (current bank.place bank.second) 4096 held ≡ whole_side bank.generation body) → IfSome x (BankSays bank)
+told_fresh bank body None fits size none stands whole = tt
+told_fresh bank body (Some held) fits size none stands whole = fresh_says bank body held fits size none stands whole
+
+pub told_whole : (place : BankPlace) (cell : ℕ) (second : Bool) (g : ℕ) (body : List ℕ) (x : Option (List ℕ)) → length body ≤ 4080 → IfSome x (Stands place second g body)
+    → IfSome x (λ held. area (current place second) 4096 held ≡ whole_side g body) → IfSome x (λ held. content_of place cell held ≡ Some (just body))
+told_whole place cell second g body None fits stands whole = tt
+told_whole place cell second g body (Some held) fits stands whole = content_whole place cell second g body held fits stands whole
 
 -- the same, where the code has opened the bank's value `now` into the fields of `bank`
 pub side_OldOrNew : (bank now : BankState) (at : ℕ) (body : List ℕ) (x y : Option (List ℕ)) → bank ≡ now → at ≡ other bank.place bank.second → Apart now.place → IfSome x (BankSays now)
@@ -136,16 +146,29 @@ side_Stands bank now at body x y same is apart up f =
     (subst (λ (b : BankState). Told (Renewed (other b.place b.second) (record { generation = b.generation + 1; body = body })) x y) same
     (subst (λ (p : ℕ). Told (Renewed p (record { generation = bank.generation + 1; body = body })) x y) is f))
 
--- what the bank's new value says
-pub side_says : (bank now new : BankState) (at : ℕ) (body : List ℕ) (x y : Option (List ℕ)) → bank ≡ now → at ≡ other bank.place bank.second → Apart now.place → IfSome x (BankSays now)
-    → Told (Renewed at (record { generation = bank.generation + 1; body = body })) x y
-    → new.place ≡ bank.place → new.second ≡ not bank.second → new.generation ≡ bank.generation + 1 → IfSome y (BankSays new)
-side_says bank now new at body x y same is apart up f place second generation =
-    let stands : IfSome y (Stands now.place (not now.second) (now.generation + 1) body) = side_Stands bank now at body x y same is apart up f in
-    told_says new body y
-    (subst (λ (p : BankPlace). IfSome y (Stands p new.second new.generation body)) (sym (place ∙ (λ i. (same i).place)))
-    (subst (λ (b : Bool). IfSome y (Stands now.place b new.generation body)) (sym (second ∙ (λ i. not (same i).second)))
-    (subst (λ (n : ℕ). IfSome y (Stands now.place (not now.second) n body)) (sym (generation ∙ (λ i. (same i).generation + 1))) stands)))
+-- what the bank's new value says, and what it then holds
+flip_whole : (bank : BankState) (at : ℕ) (body : List ℕ) (y : Option (List ℕ)) → at ≡ other bank.place bank.second → IfSome y (λ held. area at 4096 held ≡ whole_side (bank.generation + 1) body)
+    → IfSome y (λ held. area (current bank.place (not bank.second)) 4096 held ≡ whole_side (bank.generation + 1) body)
+flip_whole bank at body y is f = subst (λ (p : ℕ). IfSome y (λ held. area p 4096 held ≡ whole_side (bank.generation + 1) body)) (is ∙ sym (flipped_current bank.place bank.second)) f
+
+pub side_says : (bank now : BankState) (at : ℕ) (body : List ℕ) (x y : Option (List ℕ)) → length body ≤ 4080 → bank ≡ now → at ≡ other bank.place bank.second → Apart now.place → IfSome x (BankSays now)
+    → Told (Renewed at (record { generation = bank.generation + 1; body = body })) x y → IfSome y (λ held. area at 4096 held ≡ whole_side (bank.generation + 1) body)
+    → (gates : List Bool) → gates ≡ []
+    → IfSome y (BankSays (record { place = bank.place; cell = bank.cell; second = not bank.second; generation = bank.generation + 1; size = length body; gates = gates; sure = bank.sure }))
+side_says bank now at body x y fits same is apart up f whole gates none =
+    let stands : IfSome y (Stands bank.place (not bank.second) (bank.generation + 1) body) =
+    subst (λ (b : BankState). IfSome y (Stands b.place (not b.second) (b.generation + 1) body)) (sym same) (side_Stands bank now at body x y same is apart up f) in
+    told_fresh (record { place = bank.place; cell = bank.cell; second = not bank.second; generation = bank.generation + 1; size = length body; gates = gates; sure = bank.sure }) body y fits refl none stands
+    (flip_whole bank at body y is whole)
+
+pub side_content : (bank now : BankState) (at : ℕ) (body : List ℕ) (x y : Option (List ℕ)) → length body ≤ 4080 → bank ≡ now → at ≡ other bank.place bank.second → Apart now.place → IfSome x (BankSays now)
+    → Told (Renewed at (record { generation = bank.generation + 1; body = body })) x y → IfSome y (λ held. area at 4096 held ≡ whole_side (bank.generation + 1) body)
+    → IfSome y (λ held. content_of now.place now.cell held ≡ Some (just body))
+side_content bank now at body x y fits same is apart up f whole =
+    subst (λ (b : BankState). IfSome y (λ held. content_of b.place b.cell held ≡ Some (just body))) same
+    (told_whole bank.place bank.cell (not bank.second) (bank.generation + 1) body y fits
+    (subst (λ (b : BankState). IfSome y (Stands b.place (not b.second) (b.generation + 1) body)) (sym same) (side_Stands bank now at body x y same is apart up f))
+    (flip_whole bank at body y is whole))
 
 -- all bytes of the side that was renewed, and those of the newest one, which no step touched
 pub side_whole : (bank now : BankState) (at : ℕ) (body : List ℕ) (y : Option (List ℕ)) → bank ≡ now → at ≡ other bank.place bank.second
@@ -190,11 +213,6 @@ pub told_newest : (place : BankPlace) (second : Bool) (g : ℕ) (body : List ℕ
     → IfSome x (λ held. newest_side place held ≡ Some (record { generation = g; body = body }))
 told_newest place second g body x f = IfSome-map (Stands place second g body) (λ held. newest_side place held ≡ Some (record { generation = g; body = body })) x (λ held s. newest-Stands place second g body held s) f
 
-pub told_content : (place : BankPlace) (cell : ℕ) (second : Bool) (g : ℕ) (body : List ℕ) (x : Option (List ℕ)) → IfSome x (Stands place second g body)
-    → IfSome x (λ held. content_of place cell held ≡ Some (just body))
-told_content place cell second g body x f =
-    IfSome-map (Stands place second g body) (λ held. content_of place cell held ≡ Some (just body)) x (λ held s. ap content_in (newest-Stands place second g body held s)) f
-
 -- no side of an erased place is valid
 fresh_first : (place : BankPlace) (bytes : List ℕ) → Fresh place bytes → valid_side (area place.first.at 4096 bytes) ≡ None
 fresh_first place bytes fresh = blank_gate (area place.first.at 4096 bytes) (take-take 8 4096 (drop place.first.at bytes) (omega arith) ∙ blank_first place.first.at 4096 8 bytes (omega arith) fresh.first)
@@ -237,3 +255,24 @@ made_ages place body old new fresh either =
 pub told_made_ages : (place : BankPlace) (body : List ℕ) (x y : Option (List ℕ)) → IfSome x (Fresh place) → Told (OldOrNew place (record { generation = 1; body = body })) x y → Told (AgesAtMost 1 place) x y
 told_made_ages place body x y fresh f =
     Told-with (Fresh place) (OldOrNew place (record { generation = 1; body = body })) (AgesAtMost 1 place) x y (λ u v p q. made_ages place body u v p q) fresh f
+
+-- the erases of a side, and then two writes
+pub told_erases : (page at n : ℕ) (x : Option (List ℕ)) (p q r : Option Changes) → IfSome x (λ held. ChangesAtMost 0 (dirty_pages page at n held) p q) → ChangesAtMost 2 0 q r
+    → IfSome x (λ held. ChangesAtMost 2 (dirty_pages page at n held) p r)
+told_erases page at n None p q r f two = tt
+told_erases page at n (Some x) p q r f two =
+    let e : dirty_pages page at n x + 0 ≡ dirty_pages page at n x = omega arith in
+    subst (λ (k : ℕ). ChangesAtMost 2 k p r) e (changes_add 0 2 (dirty_pages page at n x) 0 p q r f two)
+
+-- a fault that is passed on is a fault of the flash
+pub passed_not_full : (fault : CallFault) (passed : BankFault) → passed ≡ bank_fault fault → passed ≡ Full → ⊥
+passed_not_full (Faulty operation) passed is full = cc (sym is ∙ full)
+passed_not_full Gone passed is full = cc (sym is ∙ full)
+
+-- the erases of the other side, where the code has opened the bank's value
+pub side_erases : (bank now : BankState) (at page pages n : ℕ) (x : Option (List ℕ)) (p q : Option Changes) → bank ≡ now → at ≡ other bank.place bank.second → page ≡ n
+    → IfSome x (λ held. ChangesAtMost 2 (dirty_pages page at (4096 / page) held) p q) → IfSome x (λ held. ChangesAtMost 2 (dirty_pages n (other now.place now.second) (4096 / n) held) p q)
+side_erases bank now at page pages n x p q same is size f =
+    subst (λ (k : ℕ). IfSome x (λ held. ChangesAtMost 2 (dirty_pages k (other now.place now.second) (4096 / k) held) p q)) size
+    (subst (λ (b : BankState). IfSome x (λ held. ChangesAtMost 2 (dirty_pages page (other b.place b.second) (4096 / page) held) p q)) same
+    (subst (λ (k : ℕ). IfSome x (λ held. ChangesAtMost 2 (dirty_pages page k (4096 / page) held) p q)) is f))

@@ -75,7 +75,7 @@ blank_gate side is = no_gate side (ap (λ (xs : List ℕ). bytes_eq xs gate) (ta
 decoded : (g : ℕ) → (((g / 128 / 128 / 128 / 128 * 128 + g / 128 / 128 / 128 % 128) * 128 + g / 128 / 128 % 128) * 128 + g / 128 % 128) * 128 + g % 128 ≡ g
 decoded g = omega arith
 
-decoded_size : (n : ℕ) → n / 128 * 128 + n % 128 ≡ n
+pub decoded_size : (n : ℕ) → n / 128 * 128 + n % 128 ≡ n
 decoded_size n = omega arith
 
 lt_true : (a b : ℕ) → a < b → nat_lt a b ≡ true
@@ -113,14 +113,6 @@ found_written g body side low high fits opened written =
     ∙ ap (λ (b : Bool). side_by b (gate ++ head_bytes g n) side) (head_is g n low high fits)
     ∙ (λ i. Some (record { generation = decoded g i; body = take (decoded_size n i) (drop 16 side) }))
     ∙ ap (λ (xs : List ℕ). Some (record { generation = g; body = xs })) content
-
--- a side whose gate is torn holds nothing, or what was written
-pub gate_torn : (g : ℕ) (body side : List ℕ) → 1 ≤ g → g < 2 ^ 32 → length body ≤ 4080
-    → take (length (side_bytes g body)) (drop 8 side) ≡ side_bytes g body → (valid_side side ≡ None) ⊎ (valid_side side ≡ Some (record { generation = g; body = body }))
-gate_torn g body side low high fits written = elim (cases_Bool (bytes_eq (take 8 (take 16 side)) gate)) [
-  | inl is ↦ inr (found_written g body side low high fits (sym (take-take 8 16 side (omega arith)) ∙ (bytes_eq-Decides (take 8 (take 16 side)) gate).0 is) written)
-  | inr not ↦ inl (no_gate side not)
-]
 
 newest_first : (x : ValidSide) (o : Option ValidSide) → AtMost x.generation o → newest (Some x) o ≡ Some x
 newest_first x None most = refl
@@ -161,7 +153,7 @@ Stands-kept place second g body old new apart keeps most s = record {
   positive = s.positive;
 }
 
-flipped_current : (place : BankPlace) (second : Bool) → current place (not second) ≡ other place second
+pub flipped_current : (place : BankPlace) (second : Bool) → current place (not second) ≡ other place second
 flipped_current place true = refl
 flipped_current place false = refl
 

@@ -8,7 +8,10 @@ use Rattle.smp_flash.specs.Region.{gate}
 use Rattle.smp_flash.proofs.Areas.{area-area, area-add, blank_first, blank_within, Keeps-wider, Clear-within}
 use Rattle.smp_gate.specs.Side.{valid_side, AtMost, padding, side_bytes, whole_side}
 use Rattle.smp_gate.specs.Step.{Quiet, Renewed, QuietOrRenewed, Ready}
-use Rattle.smp_gate.proofs.Sides.{blank_gate, found_written, gate_torn}
+use Rattle.smp_gate.proofs.Sides.{blank_gate, found_written, no_gate}
+use Rattle.std.specs.Str.{bytes_eq}
+use Rattle.std.proofs.lemmas.Bool.{cases_Bool}
+use Rattle.std.proofs.lemmas.Slice.Eq.{bytes_eq-Decides}
 
 -- three writes, one behind the other
 pub laid_out : (n pad k l : ℕ) (into h b z : List ℕ) → length h ≡ 8 → length b ≡ n → length z ≡ pad
@@ -57,23 +60,6 @@ text_kept at text old new keeps ready = keeps.apart (at + 8) (length text) (inr 
 gate_keeps : (at : ℕ) (old new : List ℕ) → Keeps (spot at 8) old new → Keeps (spot at 4096) old new
 gate_keeps at old new keeps = Keeps-wider (spot at 8) (spot at 4096) old new (λ p m clear. Clear-within at 8 at 4096 (omega arith) (omega arith) p m clear) keeps
 
--- a gate that is torn
-pub either_torn : (at g : ℕ) (body old new : List ℕ) → 1 ≤ g → g < 2 ^ 32 → length body ≤ 4080 → Ready at (side_bytes g body) old → Keeps (spot at 8) old new
-    → QuietOrRenewed at (record { generation = g; body = body }) old new
-either_torn at g body old new low high fits ready keeps =
-    elim (gate_torn g body (area at 4096 new) low high fits (behind_gate at (side_bytes g body) new (room g body fits) (text_kept at (side_bytes g body) old new keeps ready))) [
-      | inl none ↦ inl (record { keeps = gate_keeps at old new keeps; most = λ m most. subst (AtMost m) (sym none) tt })
-      | inr found ↦ inr (record { keeps = gate_keeps at old new keeps; found = found })
-    ]
-
-pub Renewed-written : (at g : ℕ) (body old new : List ℕ) → 1 ≤ g → g < 2 ^ 32 → length body ≤ 4080 → Ready at (side_bytes g body) old → Holds at gate old new
-    → Renewed at (record { generation = g; body = body }) old new
-Renewed-written at g body old new low high fits ready holds = record {
-  keeps = gate_keeps at old new holds.keeps;
-  found = found_written g body (area at 4096 new) low high fits (take-take 8 4096 (drop at new) (omega arith) ∙ holds.holds)
-      (behind_gate at (side_bytes g body) new (room g body fits) (text_kept at (side_bytes g body) old new holds.keeps ready));
-}
-
 -- all bytes of a side whose gate was written
 pub whole_written : (at g : ℕ) (body old new : List ℕ) → length body ≤ 4080 → Ready at (side_bytes g body) old → Holds at gate old new → area at 4096 new ≡ whole_side g body
 whole_written at g body old new fits ready holds =
@@ -85,3 +71,25 @@ whole_written at g body old new fits ready holds =
     let clean : area (at + 8 + n) (4088 - n) new ≡ blank (4088 - n) = holds.keeps.apart (at + 8 + n) (4088 - n) (inr (omega arith), tt) ∙ ready.clean in
     let behind : area (at + 8) (n + (4088 - n)) new ≡ text ++ blank (4088 - n) = area-add (at + 8) n (4088 - n) new ∙ (λ i. stands i ++ clean i) in
     ap (λ (k : ℕ). area at k new) e ∙ area-add at 8 (n + (4088 - n)) new ∙ (λ i. holds.holds i ++ behind i)
+
+pub Renewed-written : (at g : ℕ) (body old new : List ℕ) → 1 ≤ g → g < 2 ^ 32 → length body ≤ 4080 → Ready at (side_bytes g body) old → Holds at gate old new
+    → Renewed at (record { generation = g; body = body }) old new
+Renewed-written at g body old new low high fits ready holds = record {
+  keeps = gate_keeps at old new holds.keeps;
+  found = found_written g body (area at 4096 new) low high fits (take-take 8 4096 (drop at new) (omega arith) ∙ holds.holds)
+      (behind_gate at (side_bytes g body) new (room g body fits) (text_kept at (side_bytes g body) old new holds.keeps ready));
+  whole = whole_written at g body old new fits ready holds;
+}
+
+-- a gate that is torn
+pub either_torn : (at g : ℕ) (body old new : List ℕ) → 1 ≤ g → g < 2 ^ 32 → length body ≤ 4080 → Ready at (side_bytes g body) old → Keeps (spot at 8) old new
+    → QuietOrRenewed at (record { generation = g; body = body }) old new
+either_torn at g body old new low high fits ready keeps =
+    let side : List ℕ = area at 4096 new in
+    elim (cases_Bool (bytes_eq (take 8 (take 16 side)) gate)) [
+      | inl is ↦
+          let opened : area at 8 new ≡ gate =
+          sym (take-take 8 4096 (drop at new) (omega arith)) ∙ sym (take-take 8 16 side (omega arith)) ∙ (bytes_eq-Decides (take 8 (take 16 side)) gate).0 is in
+          inr (Renewed-written at g body old new low high fits ready (record { keeps = keeps; holds = opened }))
+      | inr other ↦ inl (record { keeps = gate_keeps at old new keeps; most = λ m most. subst (AtMost m) (sym (no_gate side other)) tt })
+    ]

@@ -1,5 +1,5 @@
 -- What a bank's value says, and what the bytes have to be for it.
-use Rattle.std.specs.Prelude.{◌≡◌, ◌+◌, ◌-◌, ◌*◌, ◌≤◌, ℕ, Bool, true, false, List, length, Some}
+use Rattle.std.specs.Prelude.{◌≡◌, ◌+◌, ◌-◌, ◌*◌, ◌≤◌, ℕ, Bool, true, false, List, length, take, Some}
 use Rattle.smp_flash.specs.Area.{area}
 use Rattle.smp_flash.specs.declared.layout.BankPlace.{BankPlace}
 use Rattle.smp_gate.specs.Side.{valid_side, length_in, AtMost}
@@ -40,7 +40,7 @@ pub record Stands (place : BankPlace) (second : Bool) (generation : ℕ) (body b
 pub record BankSays (bank : BankState) (bytes : List ℕ) : Type 0 where
   pub body : List ℕ
   pub stands : Stands bank.place bank.second bank.generation body bytes
-  pub size : length_in (area (current bank.place bank.second) 16 bytes) ≡ bank.size
+  pub size : length_in (take 16 (area (current bank.place bank.second) 4096 bytes)) ≡ bank.size
   pub used : Used bank.cell bank.size bank.gates (area (current bank.place bank.second) 4096 bytes)
 
 -- where the next cell goes

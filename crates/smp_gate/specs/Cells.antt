@@ -53,6 +53,13 @@ standing [] = 0
 standing (true ∷ gates) = suc (standing gates)
 standing (false ∷ gates) = standing gates
 
+-- which of the gates is the n-th that stands, counted from 0
+abbrev pub place_of : ℕ → List Bool → ℕ
+place_of n [] = 0
+place_of zero (true ∷ gates) = 0
+place_of (suc n) (true ∷ gates) = suc (place_of n gates)
+place_of n (false ∷ gates) = suc (place_of n gates)
+
 -- the cell of number n, where there is one
 abbrev pub cell_of : ℕ → List (List ℕ) → Option (List ℕ)
 cell_of n [] = None

@@ -5,7 +5,8 @@ use Rattle.smp_flash.specs.Geometry.{size_of}
 use Rattle.smp_flash.specs.declared.geometry.Geometry.{Geometry}
 use Rattle.smp_flash.specs.declared.layout.BankPlace.{BankPlace}
 use Rattle.smp_gate.specs.Side.{ValidSide, valid_side, length_in}
-use Rattle.smp_gate.specs.Cells.{span, cells_at, places, cells_in}
+use Rattle.std.specs.Option.{option_map}
+use Rattle.smp_gate.specs.Cells.{span, cells_at, places, cells_in, cell_of}
 
 -- the sides don't overlap
 abbrev pub Apart : BankPlace → Type 0
@@ -68,6 +69,14 @@ content_in cell (Some side) = content_by cell (valid_side side) side
 -- the content of a bank, for cells of this length: none where no side is valid
 abbrev pub content_of : BankPlace → ℕ → List ℕ → Option Content
 content_of place cell bytes = content_in cell (newest_bytes place bytes)
+
+-- the bank holds this body, and maybe cells
+abbrev pub HasBody : BankPlace → ℕ → List ℕ → List ℕ → Type 0
+HasBody place cell body bytes = option_map (λ c. c.body) (content_of place cell bytes) ≡ Some body
+
+-- the bank holds this cell of number n
+abbrev pub HasCell : BankPlace → ℕ → ℕ → List ℕ → List ℕ → Type 0
+HasCell place cell n bytes held = (c : Content) → content_of place cell held ≡ Some c → cell_of n c.cells ≡ Some bytes
 
 -- the content is what it was, or this
 abbrev pub SameOrThis : BankPlace → ℕ → Content → List ℕ → List ℕ → Type 0

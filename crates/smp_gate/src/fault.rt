@@ -9,10 +9,12 @@ use smp_flash::{CallFault, Operation};
 pub enum BankFault {
     /// Neither side is valid. From `open` alone.
     Unformatted,
-    /// This operation of the flash failed. After it a bank that was being replaced isn't sure.
+    /// This operation of the flash failed. After it a bank that was being replaced or appended to isn't sure.
     Fault(Operation),
-    /// The flash is off. After it a bank that was being replaced isn't sure.
+    /// The flash is off. After it a bank that was being replaced or appended to isn't sure.
     Off,
+    /// The newest side has no cell that is free, and nothing changed. From `append` alone.
+    Full,
     /// The generation is 4294967295, and nothing changed. From `replace` alone.
     Worn,
 }

@@ -2,7 +2,7 @@
 ghost use Rattle.std.specs.Prelude.{◌≡◌, ◌+◌, ◌<◌, ◌≤◌, length, IfOk, IfSome};
 ghost use Rattle.std.specs.Option.{ForSome};
 ghost use Rattle.smp_flash.specs.Area.{area, spot};
-ghost use Rattle.smp_flash.specs.Calls.{Calls, ReadsAtMost};
+ghost use Rattle.smp_flash.specs.Calls.{Calls, ReadsAtMost, ChangesAtMost};
 ghost use Rattle.smp_flash.specs.Geometry.{size_of};
 ghost use Rattle.smp_flash.specs.State.{ended};
 ghost use Rattle.smp_gate.specs.Head.{head_in, chosen};
@@ -60,6 +60,7 @@ pub fn look<F: Flash>(flash: &mut F, at: u32) -> Result<Option<Head>, CallFault>
     requires { at + 4096 ≤ size_of (F.state flash.old).geometry }
     ensures calls { Calls (spot at 4096) (ended result) (F.state flash.old) (F.state flash.new) }
     ensures kept { (F.state flash.new).bytes ≡ (F.state flash.old).bytes }
+    ensures changes { ChangesAtMost 0 0 (F.state flash.old).changes (F.state flash.new).changes }
     ensures reads { ReadsAtMost 16 (F.state flash.old).bytes_read (F.state flash.new).bytes_read }
     ensures positive { IfOk result (λ head. ForSome head (λ h. 1 ≤ h.generation)) }
     ensures small { IfOk result (λ head. ForSome head (λ h. h.size ≤ 4080)) }

@@ -1,13 +1,14 @@
 // Laws of the definitions that the layers above cite, each as the contract of a function that does nothing.
 ghost use Rattle.std.specs.Prelude.{◌≡◌, ◌+◌, ◌≤◌, List, ℕ, Some};
 ghost use Rattle.smp_flash.specs.declared.layout.BankPlace.{BankPlace as Place};
-ghost use Rattle.smp_gate.specs.Bank.{BankState, BankSays};
-ghost use Rattle.smp_flash.specs.Area.{blank, Clear, Keeps};
+ghost use Rattle.smp_gate.specs.Bank.{BankState, BankSays, current};
+ghost use Rattle.smp_gate.specs.Cells.{cells_in};
+ghost use Rattle.smp_flash.specs.Area.{area, blank, Clear, Keeps};
 ghost use Rattle.smp_flash.specs.Geometry.{size_of};
 ghost use Rattle.smp_flash.specs.Layout.{geometry_of, progress_of, settings_of};
 ghost use Rattle.smp_flash.specs.declared.geometry.Geometry.{Geometry as Sizes};
 ghost use Rattle.smp_flash.specs.declared.layout.Layout.{Layout as Regions};
-ghost use Rattle.smp_gate.specs.Newest.{Fits, Fresh, newest_side, newest_generation, content_of, just, AgesAtMost};
+ghost use Rattle.smp_gate.specs.Newest.{Fits, Fresh, newest_side, newest_generation, content_of, AgesAtMost};
 
 /// A change that keeps clear of both sides keeps what the bank's value says, what the bank holds, and its generation.
 pub fn bank_outlasts_other_changes()
@@ -15,12 +16,15 @@ pub fn bank_outlasts_other_changes()
         → Keeps spots old new → BankSays bank old → BankSays bank new }
     ensures holds { (place : Place) (spots : List (ℕ × ℕ)) (old new : List ℕ) → Clear spots place.first.at 4096 → Clear spots place.second.at 4096
         → Keeps spots old new → newest_side place new ≡ newest_side place old }
+    ensures content { (place : Place) (cell : ℕ) (spots : List (ℕ × ℕ)) (old new : List ℕ) → Clear spots place.first.at 4096 → Clear spots place.second.at 4096
+        → Keeps spots old new → content_of place cell new ≡ content_of place cell old }
 {}
 
 /// What the bank's value says, by the bytes: the newest side has its generation, and the bank has a content.
 pub fn bank_says_what_stands()
     ensures generation { (bank : BankState) (bytes : List ℕ) → BankSays bank bytes → newest_generation bank.place bytes ≡ bank.generation }
-    ensures content { (bank : BankState) (bytes : List ℕ) (says : BankSays bank bytes) → content_of bank.place bank.cell bytes ≡ Some (just says.body) }
+    ensures content { (bank : BankState) (bytes : List ℕ) (says : BankSays bank bytes)
+        → content_of bank.place bank.cell bytes ≡ Some (record { body = says.body; cells = cells_in bank.cell bank.size (area (current bank.place bank.second) 4096 bytes) }) }
 {}
 
 /// A generation that never fell in either of two changes, and rose by at most m and n, rose by at most m + n in both.

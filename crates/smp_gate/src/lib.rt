@@ -18,9 +18,11 @@
 #![tactic(auto)]
 
 mod bank;
+mod cells;
 mod fault;
 mod head;
 mod laws;
+mod opening;
 mod steps;
 #[cfg(test)]
 mod tests;

@@ -1,35 +1,37 @@
 // The steps of a replacement, each with what every exit leaves.
-ghost use Rattle.std.specs.Prelude.{◌≡◌, ◌+◌, ◌<◌, ◌≤◌, ◌%◌, ◌^◌, ◌++◌, length, take, replicate, true, OnOk, IfSome};
-ghost use Rattle.smp_flash.specs.Area.{area, blank, spot, Erased, Told};
-ghost use Rattle.smp_flash.specs.Calls.{Calls, ReadsAtMost, Smaller};
-ghost use Rattle.smp_flash.specs.Geometry.{size_of, Regular};
+ghost use Rattle.std.specs.Prelude.{◌≡◌, ◌+◌, ◌/◌, ◌<◌, ◌≤◌, ◌%◌, ◌^◌, ◌++◌, length, take, replicate, true, OnOk, IfSome};
+ghost use Rattle.smp_flash.specs.Area.{area, blank, dirty_pages, spot, Erased, Told};
+ghost use Rattle.smp_flash.specs.Calls.{Calls, ReadsAtMost, ChangesAtMost, Smaller};
+ghost use Rattle.smp_flash.specs.Geometry.{size_of, IsPage, Regular};
 ghost use Rattle.smp_flash.specs.Region.{gate, counts_write};
 ghost use Rattle.smp_flash.specs.State.{ended};
 ghost use Rattle.smp_gate.specs.Side.{head_bytes, side_bytes, whole_side};
-ghost use Rattle.smp_gate.specs.Step.{Quiet, QuietOrRenewed, Ready, Renewed};
+ghost use Rattle.smp_gate.specs.Cells.{filled};
+ghost use Rattle.smp_gate.specs.Step.{InOrder, Quiet, QuietOrRenewed, Ready, Renewed};
 
-use smp_flash::{CallFault, Flash, GATE, clear_page, write_part};
+use smp_flash::{CallFault, Flash, GATE, SIDE, clear_page, write_part};
 
-/// The bytes of a side.
-const SIDE: u32 = 4096;
-
-/// Erases the pages of a side that are not erased already. Each is read into the front of `buffer`.
+/// Erases the pages of a side that are not erased already, in ascending order. Each is read into the front of `buffer`.
 pub fn erase_side<F: Flash>(
     flash: &mut F,
     at: u32,
     page: u32,
     buffer: &mut [u8],
 ) -> Result<(), CallFault>
-    requires room { length buffer.old ≡ 4096 }
+    requires room { length buffer.old ≡ 512 }
     requires page { page ≡ (F.state flash.old).geometry.page }
+    requires is_page { IsPage page }
     requires some { 0 < page }
     requires most { page ≤ 4096 }
     requires divides { 4096 % page ≡ 0 }
-    requires small { size_of (F.state flash.old).geometry ≤ 2 ^ 24 }
+    requires small { size_of (F.state flash.old).geometry ≤ 2 ^ 25 }
     requires begins { at % page ≡ 0 }
     requires inside { at + 4096 ≤ size_of (F.state flash.old).geometry }
     ensures calls { Calls (spot at 4096) (ended result) (F.state flash.old) (F.state flash.new) }
     ensures reads { ReadsAtMost 4096 (F.state flash.old).bytes_read (F.state flash.new).bytes_read }
+    ensures changes { ChangesAtMost 0 (4096 / page) (F.state flash.old).changes (F.state flash.new).changes }
+    ensures erases { IfSome (F.state flash.old).bytes (λ held. ChangesAtMost 0 (dirty_pages page at (4096 / page) held) (F.state flash.old).changes (F.state flash.new).changes) }
+    ensures order { Told (InOrder at page) (F.state flash.old).bytes (F.state flash.new).bytes }
     ensures quiet { Told (Quiet at) (F.state flash.old).bytes (F.state flash.new).bytes }
     ensures erased { OnOk result (Told (Erased at 4096) (F.state flash.old).bytes (F.state flash.new).bytes) }
 {
@@ -70,7 +72,7 @@ fn zero(part: &mut [u8], count: usize)
 
 /// Puts the head and the body at the front, and says how many bytes these are.
 fn lay_out(into: &mut [u8], generation: u32, body: &[u8]) -> usize
-    requires room { length into.old ≡ 4096 }
+    requires room { 8 + filled (length body.now) ≤ length into.old }
     requires fits { length body.now ≤ 4080 }
     ensures size { result ≡ length (side_bytes generation body.now) }
     ensures bytes { take result into.new ≡ side_bytes generation body.now }
@@ -86,15 +88,15 @@ fn lay_out(into: &mut [u8], generation: u32, body: &[u8]) -> usize
     8 + size + zeros
 }
 
-/// Writes the head and the body of a side that is erased, in one write behind the gate's place.
-pub fn write_body<F: Flash>(
+/// Writes the head and the body of a side that is erased, laid out in `buffer`, in one write behind the gate's place.
+fn write_laid_out<F: Flash>(
     flash: &mut F,
     at: u32,
     generation: u32,
     body: &[u8],
     buffer: &mut [u8],
 ) -> Result<(), CallFault>
-    requires room { length buffer.old ≡ 4096 }
+    requires room { 8 + filled (length body.now) ≤ length buffer.old }
     requires fits { length body.now ≤ 4080 }
     requires begins { at % 8 ≡ 0 }
     requires inside { at + 4096 ≤ size_of (F.state flash.old).geometry }
@@ -102,6 +104,7 @@ pub fn write_body<F: Flash>(
     requires erased { IfSome (F.state flash.old).bytes (λ held. area at 4096 held ≡ blank 4096) }
     ensures calls { Calls (spot at 4096) (ended result) (F.state flash.old) (F.state flash.new) }
     ensures reads { ReadsAtMost 0 (F.state flash.old).bytes_read (F.state flash.new).bytes_read }
+    ensures changes { ChangesAtMost 1 0 (F.state flash.old).changes (F.state flash.new).changes }
     ensures quiet { Told (Quiet at) (F.state flash.old).bytes (F.state flash.new).bytes }
     ensures ready { OnOk result (IfSome (F.state flash.new).bytes (Ready at (side_bytes generation body.now))) }
 {
@@ -109,8 +112,57 @@ pub fn write_body<F: Flash>(
     write_part(flash, at + 8, &buffer[..count])
 }
 
+/// The same for a body of any length.
+fn write_large_body<F: Flash>(
+    flash: &mut F,
+    at: u32,
+    generation: u32,
+    body: &[u8],
+) -> Result<(), CallFault>
+    requires fits { length body.now ≤ 4080 }
+    requires begins { at % 8 ≡ 0 }
+    requires inside { at + 4096 ≤ size_of (F.state flash.old).geometry }
+    requires regular { Regular (F.state flash.old).geometry }
+    requires erased { IfSome (F.state flash.old).bytes (λ held. area at 4096 held ≡ blank 4096) }
+    ensures calls { Calls (spot at 4096) (ended result) (F.state flash.old) (F.state flash.new) }
+    ensures reads { ReadsAtMost 0 (F.state flash.old).bytes_read (F.state flash.new).bytes_read }
+    ensures changes { ChangesAtMost 1 0 (F.state flash.old).changes (F.state flash.new).changes }
+    ensures quiet { Told (Quiet at) (F.state flash.old).bytes (F.state flash.new).bytes }
+    ensures ready { OnOk result (IfSome (F.state flash.new).bytes (Ready at (side_bytes generation body.now))) }
+{
+    let mut buffer = [0u8; SIDE as usize];
+    write_laid_out(flash, at, generation, body, &mut buffer)
+}
+
+/// The same, by a small buffer where the body has room in it, since clearing a large one costs more than the write.
+fn write_body<F: Flash>(
+    flash: &mut F,
+    at: u32,
+    generation: u32,
+    body: &[u8],
+    buffer: &mut [u8],
+) -> Result<(), CallFault>
+    requires room { length buffer.old ≡ 512 }
+    requires fits { length body.now ≤ 4080 }
+    requires begins { at % 8 ≡ 0 }
+    requires inside { at + 4096 ≤ size_of (F.state flash.old).geometry }
+    requires regular { Regular (F.state flash.old).geometry }
+    requires erased { IfSome (F.state flash.old).bytes (λ held. area at 4096 held ≡ blank 4096) }
+    ensures calls { Calls (spot at 4096) (ended result) (F.state flash.old) (F.state flash.new) }
+    ensures reads { ReadsAtMost 0 (F.state flash.old).bytes_read (F.state flash.new).bytes_read }
+    ensures changes { ChangesAtMost 1 0 (F.state flash.old).changes (F.state flash.new).changes }
+    ensures quiet { Told (Quiet at) (F.state flash.old).bytes (F.state flash.new).bytes }
+    ensures ready { OnOk result (IfSome (F.state flash.new).bytes (Ready at (side_bytes generation body.now))) }
+{
+    if body.len() <= 496 {
+        write_laid_out(flash, at, generation, body, buffer)
+    } else {
+        write_large_body(flash, at, generation, body)
+    }
+}
+
 /// Writes the gate of a side, so that what stands behind it is valid.
-pub fn write_gate<F: Flash>(
+fn write_gate<F: Flash>(
     flash: &mut F,
     at: u32,
     generation: u32,
@@ -124,6 +176,7 @@ pub fn write_gate<F: Flash>(
     requires ready { IfSome (F.state flash.old).bytes (Ready at (side_bytes generation body.now)) }
     ensures calls { Calls (spot at 4096) (ended result) (F.state flash.old) (F.state flash.new) }
     ensures reads { ReadsAtMost 0 (F.state flash.old).bytes_read (F.state flash.new).bytes_read }
+    ensures changes { ChangesAtMost 1 0 (F.state flash.old).changes (F.state flash.new).changes }
     ensures either { Told (QuietOrRenewed at (record { generation = generation; body = body.now })) (F.state flash.old).bytes (F.state flash.new).bytes }
     ensures renewed { OnOk result (Told (Renewed at (record { generation = generation; body = body.now })) (F.state flash.old).bytes (F.state flash.new).bytes) }
     ensures side { OnOk result (IfSome (F.state flash.new).bytes (λ held. area at 4096 held ≡ whole_side generation body.now)) }
@@ -141,7 +194,7 @@ pub fn fill<F: Flash>(
     body: &[u8],
     buffer: &mut [u8],
 ) -> Result<(), CallFault>
-    requires room { length buffer.old ≡ 4096 }
+    requires room { length buffer.old ≡ 512 }
     requires fits { length body.now ≤ 4080 }
     requires positive { 1 ≤ generation }
     requires begins { at % 8 ≡ 0 }
@@ -150,6 +203,7 @@ pub fn fill<F: Flash>(
     requires erased { IfSome (F.state flash.old).bytes (λ held. area at 4096 held ≡ blank 4096) }
     ensures calls { Calls (spot at 4096) (ended result) (F.state flash.old) (F.state flash.new) }
     ensures reads { ReadsAtMost 0 (F.state flash.old).bytes_read (F.state flash.new).bytes_read }
+    ensures changes { ChangesAtMost 2 0 (F.state flash.old).changes (F.state flash.new).changes }
     ensures either { Told (QuietOrRenewed at (record { generation = generation; body = body.now })) (F.state flash.old).bytes (F.state flash.new).bytes }
     ensures renewed { OnOk result (Told (Renewed at (record { generation = generation; body = body.now })) (F.state flash.old).bytes (F.state flash.new).bytes) }
     ensures side { OnOk result (IfSome (F.state flash.new).bytes (λ held. area at 4096 held ≡ whole_side generation body.now)) }
@@ -169,7 +223,7 @@ pub fn renew<F: Flash>(
     body: &[u8],
     buffer: &mut [u8],
 ) -> Result<(), CallFault>
-    requires room { length buffer.old ≡ 4096 }
+    requires room { length buffer.old ≡ 512 }
     requires fits { length body.now ≤ 4080 }
     requires positive { 1 ≤ generation }
     requires page { page ≡ (F.state flash.old).geometry.page }
@@ -179,6 +233,8 @@ pub fn renew<F: Flash>(
     requires inside { at + 4096 ≤ size_of (F.state flash.old).geometry }
     ensures calls { Calls (spot at 4096) (ended result) (F.state flash.old) (F.state flash.new) }
     ensures reads { ReadsAtMost 4096 (F.state flash.old).bytes_read (F.state flash.new).bytes_read }
+    ensures changes { ChangesAtMost 2 (4096 / page) (F.state flash.old).changes (F.state flash.new).changes }
+    ensures erases { IfSome (F.state flash.old).bytes (λ held. ChangesAtMost 2 (dirty_pages page at (4096 / page) held) (F.state flash.old).changes (F.state flash.new).changes) }
     ensures either { Told (QuietOrRenewed at (record { generation = generation; body = body.now })) (F.state flash.old).bytes (F.state flash.new).bytes }
     ensures renewed { OnOk result (Told (Renewed at (record { generation = generation; body = body.now })) (F.state flash.old).bytes (F.state flash.new).bytes) }
     ensures side { OnOk result (IfSome (F.state flash.new).bytes (λ held. area at 4096 held ≡ whole_side generation body.now)) }

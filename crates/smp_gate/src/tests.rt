@@ -28,7 +28,7 @@ const Y: [u8; 48] = [0x59; 48];
 const Z: [u8; 3] = [0x5a; 3];
 
 fn sizes(page: u32, unit: u32) -> Geometry
-    ensures { result ≡ record { page = page; unit = unit; slot_pages = 16 } }
+    ensures { result ≡ record { page = page; unit = unit; slot_pages = 16; images = 1 } }
 {
     Geometry {
         page,
@@ -148,8 +148,8 @@ fn a_torn_erase_keeps_the_newest_side(rt: HostRuntime) -> Result<(), Fail> {
     Ok(())
 }
 
-/// A replacement of a clean side is two writes; of one with two filled pages, two erases more. `open` reads each head
-/// and the newest body, once.
+/// A replacement of a clean side is two writes; of one with two filled pages, two erases more. `open` reads each head, the
+/// newest body and its 252 free cells, once. A cell is two writes, and is opened by its gate.
 #[test]
 fn operations_are_those_that_are_needed(rt: HostRuntime) -> Result<(), Fail> {
     let (mut flash, place) = fresh(rt.alloc(), sizes(512, 8))?;
@@ -163,7 +163,7 @@ fn operations_are_those_that_are_needed(rt: HostRuntime) -> Result<(), Fail> {
     assert_eq!(rt; (generation, held.as_slice()), (3, Y.as_slice()));
     assert_eq!(rt;
         (flash.changes(), flash.read_bytes()),
-        (8, 8192 + 16 + 16 + 48)
+        (8, 8192 - 2 * 512 + 32 + 48 + 252 * 16)
     );
     Ok(())
 }

@@ -1,4 +1,5 @@
-use Rattle.smp_gate.proofs.Lasting.{says_generation, says_content}
+use Rattle.smp_gate.proofs.Lasting.{says_generation}
+use Rattle.smp_gate.proofs.Contents.{says_content}
 use Rattle.smp_gate.proofs.laws.bank_says_what_stands.Goals as goal
 
 pub returns-clause-generation : goal.returns-clause-generation

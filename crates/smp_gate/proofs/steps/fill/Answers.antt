@@ -1,6 +1,6 @@
 use Rattle.std.proofs.lemmas.Result.{on_ok_weaker}
 use Rattle.smp_flash.specs.Region.{gate}
-use Rattle.smp_flash.proofs.Passing.{Calls-after}
+use Rattle.smp_flash.proofs.Passing.{Calls-after, changes_add}
 use Rattle.smp_gate.proofs.Renewing.{told_Quiet, told_then, told_Renewed, pays-after}
 use Rattle.smp_gate.proofs.steps.fill.Goals as goal
 
@@ -20,3 +20,6 @@ returns-clause-renewed g c =
 pub returns-clause-pays : goal.returns-clause-pays
 returns-clause-pays g c =
     on_ok_weaker c.write_gate.result (λ pays. pays-after (g.F.Flash.state c.args.flash.now) (g.F.Flash.state c.write_body.new.flash) (g.F.Flash.state c.write_gate.new.flash) c.args.at gate c.in_ok-write_body.ensures.calls.passes pays) c.write_gate.ensures.pays
+
+pub returns-clause-changes : goal.returns-clause-changes
+returns-clause-changes g c = changes_add 1 1 0 0 _ _ _ c.in_ok-write_body.ensures.changes c.write_gate.ensures.changes

@@ -1,6 +1,8 @@
 use Rattle.std.proofs.lemmas.Result.{on_ok_weaker}
 use Rattle.smp_flash.specs.Region.{gate}
-use Rattle.smp_flash.proofs.Passing.{Calls-after}
+use Rattle.std.proofs.Common.{◌/◌, ◌+◌, arith}
+use Rattle.smp_flash.proofs.Passing.{Calls-after, changes_add, changes_more}
+use Rattle.smp_gate.proofs.Renewing.{told_erases}
 use Rattle.smp_gate.proofs.Renewing.{told_blank, told_Quiet, told_then, told_Renewed, pays-after}
 use Rattle.smp_gate.proofs.steps.renew.Goals as goal
 
@@ -23,3 +25,10 @@ returns-clause-renewed g c =
 pub returns-clause-pays : goal.returns-clause-pays
 returns-clause-pays g c =
     on_ok_weaker c.fill.result (λ pays. pays-after (g.F.Flash.state c.args.flash.now) (g.F.Flash.state c.erase_side.new.flash) (g.F.Flash.state c.fill.new.flash) c.args.at gate c.in_ok-erase_side.ensures.calls.passes pays) c.fill.ensures.pays
+
+pub returns-clause-changes : goal.returns-clause-changes
+returns-clause-changes g c =
+    changes_more 2 2 (4096 / c.args.page + 0) (4096 / c.args.page) _ _ (omega arith) (omega arith) (changes_add 0 2 (4096 / c.args.page) 0 _ _ _ c.in_ok-erase_side.ensures.changes c.fill.ensures.changes)
+
+pub returns-clause-erases : goal.returns-clause-erases
+returns-clause-erases g c = told_erases c.args.page c.args.at (4096 / c.args.page) _ _ _ _ c.in_ok-erase_side.ensures.erases c.fill.ensures.changes

@@ -12,9 +12,10 @@ use Rattle.smp_flash.specs.Calls.{Calls}
 use Rattle.smp_gate.proofs.Sides.{low_generation}
 use Rattle.smp_flash.specs.declared.layout.BankPlace.{BankPlace}
 use Rattle.smp_gate.specs.Head.{head_by, head_in, chosen}
-use Rattle.smp_gate.specs.Side.{ValidSide, generation_in, is_valid, side_by, valid_side, AtMost}
-use Rattle.smp_gate.specs.Newest.{newest, content_of, content_in, sides}
-use Rattle.smp_gate.specs.Bank.{Stands, bar, current, other}
+use Rattle.smp_gate.specs.Side.{ValidSide, generation_in, length_in, is_valid, side_by, valid_side, AtMost}
+use Rattle.smp_gate.specs.Newest.{newer, content_of, content_in, sides}
+use Rattle.smp_gate.specs.Cells.{Used}
+use Rattle.smp_gate.specs.Bank.{BankState, BankSays, Stands, bar, current, other}
 use Rattle.smp_gate.specs.declared.head.Head.{Head}
 use Rattle.smp_gate.specs.declared.head.Choice.{Choice}
 
@@ -107,7 +108,7 @@ told_none place cell o (Some held) is heads =
     let both = none_both (head_in (area place.first.at 16 held)) (head_in (area place.second.at 16 held)) (sym heads ∙ is) in
     let first : valid_side (area place.first.at 4096 held) ≡ None = side_found place.first.at held ∙ ap (λ (o : Option Head). found_of o (area place.first.at 4096 held)) both.0 in
     let second : valid_side (area place.second.at 4096 held) ≡ None = side_found place.second.at held ∙ ap (λ (o : Option Head). found_of o (area place.second.at 4096 held)) both.1 in
-    (λ i. content_in (newest (first i) (second i)))
+    (λ i. content_in cell (newer (first i) (second i) (area place.first.at 4096 held) (area place.second.at 4096 held)))
 
 -- the side that counts is within both
 pub Covers-current : (place : BankPlace) (second : Bool) → Covers (sides place) (spot (current place second) 4096)
@@ -117,3 +118,48 @@ Covers-current place true = record { clear = λ p n c. (c.1.0, tt); spares = λ 
 pub current_Calls : (place : BankPlace) (second : Bool) (at : ℕ) (end : End) (a b : FlashState) → at ≡ current place second → Calls (spot at 4096) end a b → Calls (sides place) end a b
 current_Calls place second at end a b is f =
     Calls-wider (sides place) (spot (current place second) 4096) end a b (Covers-current place second) (subst (λ (p : ℕ). Calls (spot p 4096) end a b) is f)
+
+pub first_Calls : (place : BankPlace) (end : End) (a b : FlashState) → Calls (spot place.first.at 4096) end a b → Calls (sides place) end a b
+first_Calls place end a b f = current_Calls place false place.first.at end a b refl f
+
+pub second_Calls : (place : BankPlace) (end : End) (a b : FlashState) → Calls (spot place.second.at 4096) end a b → Calls (sides place) end a b
+second_Calls place end a b f = current_Calls place true place.second.at end a b refl f
+
+-- the head of the side that is chosen
+head_here : (place : BankPlace) (held : List ℕ) (x y : Option Head) (c : Choice) → head_in (area place.first.at 16 held) ≡ x → head_in (area place.second.at 16 held) ≡ y
+    → chosen x y ≡ Some c → head_in (area (current place c.second) 16 held) ≡ Some c.head
+head_here place held None None c e f g = absurd (cc g)
+head_here place held (Some x) None c e f g =
+    let same : record { second = false; head = x } ≡ c = cc g in subst (λ (d : Choice). head_in (area (current place d.second) 16 held) ≡ Some d.head) same e
+head_here place held None (Some y) c e f g =
+    let same : record { second = true; head = y } ≡ c = cc g in subst (λ (d : Choice). head_in (area (current place d.second) 16 held) ≡ Some d.head) same f
+head_here place held (Some x) (Some y) c e f g = by (nat_lt x.generation y.generation) g
+  where
+    by : (b : Bool) → (if b then Some (record { second = true; head = y }) else Some (record { second = false; head = x })) ≡ Some c → head_in (area (current place c.second) 16 held) ≡ Some c.head
+    by true g = let same : record { second = true; head = y } ≡ c = cc g in subst (λ (d : Choice). head_in (area (current place d.second) 16 held) ≡ Some d.head) same f
+    by false g = let same : record { second = false; head = x } ≡ c = cc g in subst (λ (d : Choice). head_in (area (current place d.second) 16 held) ≡ Some d.head) same e
+
+size_by : (is : Bool) (xs : List ℕ) (h : Head) → head_by is xs ≡ Some h → length_in xs ≡ h.size
+size_by true xs h e = cc e
+size_by false xs h e = absurd (cc e)
+
+-- what the bank's value says, as the code finds it
+pub opened_says : (bank : BankState) (o : Option Choice) (c : Choice) (at : ℕ) (body : List ℕ) (x : Option (List ℕ)) → o ≡ Some c → at ≡ current bank.place c.second → c.head.size ≤ 4080
+    → bank.second ≡ c.second → bank.generation ≡ c.head.generation → bank.size ≡ c.head.size
+    → IfSome x (λ held. o ≡ chosen (head_in (area bank.place.first.at 16 held)) (head_in (area bank.place.second.at 16 held)))
+    → IfSome x (λ held. body ≡ area (at + 16) c.head.size held) → IfSome x (λ held. Used bank.cell c.head.size bank.gates (area at 4096 held)) → IfSome x (BankSays bank)
+opened_says bank o c at body None is here fits second generation size heads read used = tt
+opened_says bank o c at body (Some held) is here fits second generation size heads read used =
+    let stands : Stands bank.place c.second c.head.generation body held = told_opened bank.place o c at body (Some held) is here fits heads read in
+    let head : head_in (area (current bank.place c.second) 16 held) ≡ Some c.head =
+    head_here bank.place held (head_in (area bank.place.first.at 16 held)) (head_in (area bank.place.second.at 16 held)) c refl refl (sym heads ∙ is) in
+    let side : ℕ = current bank.place bank.second in
+    let place : current bank.place c.second ≡ side = ap (current bank.place) (sym second) in
+    record {
+      body = body;
+      stands = subst (λ (b : Bool). Stands bank.place b bank.generation body held) (sym second) (subst (λ (n : ℕ). Stands bank.place c.second n body held) (sym generation) stands);
+      size = ap length_in (take-take 16 4096 (drop side held) (omega arith)) ∙ ap (λ (p : ℕ). length_in (area p 16 held)) (sym place)
+          ∙ size_by (is_valid (area (current bank.place c.second) 16 held)) (area (current bank.place c.second) 16 held) c.head head ∙ sym size;
+      used = subst (λ (n : ℕ). Used bank.cell n bank.gates (area side 4096 held)) (sym size)
+          (subst (λ (p : ℕ). Used bank.cell c.head.size bank.gates (area p 4096 held)) (here ∙ place) used);
+    }

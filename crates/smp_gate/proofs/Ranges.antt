@@ -1,12 +1,12 @@
 -- The cells of a side: those of a split range, of an erased one, and what a further cell adds.
-use Rattle.std.proofs.Common.{◌≡◌, ◌≢◌, inl, inr, ℕ, zero, suc, ◌+◌, ◌-◌, ◌*◌, ◌/◌, ◌<◌, ◌≤◌, Bool, true, false, List, [], ◌∷◌, ◌++◌, length, take, drop, replicate, refl, sym, ◌∙◌, ap, subst, arith, length-append}
+use Rattle.std.proofs.Common.{◌≡◌, ◌≢◌, inl, inr, ℕ, zero, suc, ◌+◌, ◌-◌, ◌*◌, ◌/◌, ◌%◌, ◌<◌, ◌≤◌, Bool, true, false, List, [], ◌∷◌, ◌++◌, length, take, drop, replicate, refl, sym, ◌∙◌, ap, subst, arith, length-append}
 use Rattle.std.specs.Str.{bytes_eq}
 use Rattle.std.proofs.lemmas.List.{append-nil, append_assoc, take_at, drop_at, length-replicate, take-replicate}
-use Rattle.std.proofs.Math.Nat.{div-mul-le_self, mul-le-mul_right}
+use Rattle.std.proofs.Math.Nat.{div-mul-le_self, mul-le-mul_right, mul-le-mul_left}
 use Rattle.std.proofs.lemmas.Slice.Eq.{bytes_eq-Decides}
 use Rattle.smp_flash.specs.Area.{area, blank}
 use Rattle.smp_flash.specs.Region.{gate}
-use Rattle.smp_flash.proofs.Areas.{blank_within}
+use Rattle.smp_flash.proofs.Areas.{blank_within, area-area}
 use Rattle.smp_gate.specs.Side.{padding, side_bytes, whole_side}
 use Rattle.smp_gate.specs.Cells.{filled, span, cells_at, places, counted, gates_from, cells_from, cells_in, Used}
 
@@ -17,6 +17,45 @@ places_fit cell size fits = omega (arith, div-mul-le_self (4096 - cells_at size)
 pub place_fits : (cell size k : ℕ) → size ≤ 4080 → k < places cell size → cells_at size + k * span cell + span cell ≤ 4096
 place_fits cell size k fits low =
     omega (arith, places_fit cell size fits, mul-le-mul_right (span cell) (let le : k + 1 ≤ places cell size = omega arith in le))
+
+-- a cell of at least one byte takes at least 16, so there are at most 255
+pub places_few : (cell size : ℕ) → 1 ≤ cell → size ≤ 4080 → places cell size ≤ 255
+places_few cell size some fits =
+    let long : 16 ≤ span cell = omega arith in
+    let less : places cell size * 16 ≤ places cell size * span cell = mul-le-mul_left (places cell size) long in
+    omega (arith, places_fit cell size fits, less)
+
+-- gates on a side, by the bytes of the whole flash
+pub gates_area : (cell side at n : ℕ) (held : List ℕ) → at + n * span cell ≤ 4096 → gates_from cell at n (area side 4096 held) ≡ gates_from cell (side + at) n held
+gates_area cell side at zero held le = refl
+gates_area cell side at (suc n) held le =
+    let p : side + (at + filled cell) ≡ side + at + filled cell = omega arith in
+    let q : side + (at + span cell) ≡ side + at + span cell = omega arith in
+    let g : area (at + filled cell) 8 (area side 4096 held) ≡ area (side + at + filled cell) 8 held =
+    area-area (at + filled cell) 8 side 4096 held (omega arith) ∙ ap (λ (x : ℕ). area x 8 held) p in
+    let rest : gates_from cell (at + span cell) n (area side 4096 held) ≡ gates_from cell (side + at + span cell) n held =
+    gates_area cell side (at + span cell) n held (omega arith) ∙ ap (λ (x : ℕ). gates_from cell x n held) q in
+    (λ i. bytes_eq (g i) gate ∷ rest i)
+
+pub turns : (i n s : ℕ) → i < n → i * s + s ≤ n * s
+turns i n s low = let le : i + 1 ≤ n = omega (arith, low) in omega (arith, mul-le-mul_right s le)
+
+-- cells begin at multiples of 8
+filled_eights : (n : ℕ) → filled n % 8 ≡ 0
+filled_eights n = omega arith
+
+times_eights : (k s : ℕ) → s % 8 ≡ 0 → (k * s) % 8 ≡ 0
+times_eights k s z = let e : s ≡ 8 * (s / 8) = omega (arith, z) in subst (λ (x : ℕ). (k * x) % 8 ≡ 0) (sym e) (omega arith)
+
+pub cell_eights : (side cell size k : ℕ) → side % 8 ≡ 0 → (side + (cells_at size + k * span cell)) % 8 ≡ 0
+cell_eights side cell size k z =
+    let a = filled_eights size in
+    let s : span cell % 8 ≡ 0 = (let f = filled_eights cell in omega (arith, f)) in
+    let t = times_eights k (span cell) s in
+    sum_eights side (16 + filled size) (k * span cell) z (omega (arith, a)) t
+  where
+    sum_eights : (x y w : ℕ) → x % 8 ≡ 0 → y % 8 ≡ 0 → w % 8 ≡ 0 → (x + (y + w)) % 8 ≡ 0
+    sum_eights x y w a b c = omega (arith, a, b, c)
 
 counted_append : (b : Bool) (x : List ℕ) (ys zs : List (List ℕ)) → counted b x (ys ++ zs) ≡ counted b x ys ++ zs
 counted_append true x ys zs = refl
@@ -85,11 +124,21 @@ pub record Touched (cell size k : ℕ) (old new : List ℕ) : Type 0 where
   pub before : (p n : ℕ) → p + n ≤ cells_at size + k * span cell → area p n new ≡ area p n old
   pub behind : (p n : ℕ) → cells_at size + k * span cell + span cell ≤ p → p + n ≤ 4096 → area p n new ≡ area p n old
 
+-- all cells that count are among those that were begun
+pub cells_used : (cell size : ℕ) (gates : List Bool) (side : List ℕ) → Used cell size gates side → cells_in cell size side ≡ cells_from cell (cells_at size) (length gates) side
+cells_used cell size gates side used =
+    let k : ℕ = length gates in
+    let most = used.most in
+    let n : places cell size ≡ k + (places cell size - k) = omega (arith, most) in
+    ap (λ (i : ℕ). cells_from cell (cells_at size) i side) n ∙ cells_split cell (cells_at size) k (places cell size - k) side
+    ∙ ap (λ (xs : List (List ℕ)). cells_from cell (cells_at size) k side ++ xs) (cells_free cell (cells_at size + k * span cell) (places cell size - k) side used.free)
+    ∙ append-nil (cells_from cell (cells_at size) k side)
+
 -- the cells then: those of before, and this one where its gate stands
 pub cells_touched : (cell size : ℕ) (gates : List Bool) (old new : List ℕ) → size ≤ 4080 → length gates < places cell size → Used cell size gates old
     → Touched cell size (length gates) old new
     → cells_in cell size new ≡ cells_in cell size old ++ counted (bytes_eq (area (cells_at size + length gates * span cell + filled cell) 8 new) gate)
-      (area (cells_at size + length gates * span cell) cell new) []
+    (area (cells_at size + length gates * span cell) cell new) []
 cells_touched cell size gates old new fits low used touched =
     let a : ℕ = cells_at size in
     let k : ℕ = length gates in
@@ -144,7 +193,7 @@ used_more cell size gates old new fits low used touched opened =
           let p : a + (k + 1 - 1) * span cell ≡ at = (let e : k + 1 - 1 ≡ k = omega arith in ap (λ (x : ℕ). a + x * span cell) e) in
           let whole : area at (span cell) new ≡ blank (span cell) = subst (λ (q : ℕ). area q (span cell) new ≡ blank (span cell)) p all_blank in
           let shut : area (at + filled cell) 8 new ≡ blank 8 = blank_within at (span cell) (filled cell) 8 new (omega arith) whole in
-          cc (sym shut ∙ opened));
+          cc (sym (ap (λ (xs : List ℕ). bytes_eq xs gate) shut) ∙ ap (λ (xs : List ℕ). bytes_eq xs gate) opened));
     }
 
 -- a side that was filled has no cells

@@ -7,7 +7,7 @@ use Rattle.smp_flash.proofs.Areas.{blank_within, blank_first}
 use Rattle.smp_flash.proofs.Passing.{Calls-wider, Covers-within}
 use Rattle.smp_flash.proofs.Telling.{IfSome-map, Told-with, Told-after}
 use Rattle.smp_gate.proofs.Writing.{Quiet-shut, Ready-written}
-use Rattle.smp_gate.proofs.steps.write_body.Goals as goal
+use Rattle.smp_gate.proofs.steps.write_laid_out.Goals as goal
 
 pub write_part-requires-clause-erased : goal.write_part-requires-clause-erased
 write_part-requires-clause-erased g c =
