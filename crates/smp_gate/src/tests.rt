@@ -1,5 +1,6 @@
 // What no clause says: worked bytes, counts of operations, and sweeps over cuts with real flashes in memory.
 ghost use Rattle.std.specs.Prelude.{◌≡◌, ◌+◌, ◌≤◌, ◌*◌, length, IsTrue, OnOk, IfOk, IfSome, true};
+ghost use Rattle.std.specs.Option.{ForSome};
 ghost use Rattle.smp_flash.specs.Geometry.{is_lawful};
 ghost use Rattle.smp_flash.specs.Layout.{progress_of, geometry_of};
 ghost use Rattle.smp_flash.specs.Memory.{mem_state};
@@ -163,7 +164,7 @@ fn operations_are_those_that_are_needed(rt: HostRuntime) -> Result<(), Fail> {
     assert_eq!(rt; (generation, held.as_slice()), (3, Y.as_slice()));
     assert_eq!(rt;
         (flash.changes(), flash.read_bytes()),
-        (8, 8192 - 2 * 512 + 32 + 48 + 252 * 16)
+        (8, 8192 + 32 + 48 + 252 * 16)
     );
     Ok(())
 }
@@ -178,6 +179,7 @@ fn checked(
     requires { Fits place (mem_state flash.old).geometry }
     ensures fits { Fits place (mem_state flash.new).geometry }
     ensures place { IfOk result (λ bank. bank.place ≡ place) }
+    ensures cell { IfOk result (λ bank. bank.cell ≡ 8) }
     ensures sure { IfOk result (λ bank. IsTrue bank.sure) }
     ensures says { IfOk result (λ bank. IfSome (mem_state flash.new).bytes (BankSays bank)) }
 {
@@ -292,6 +294,111 @@ fn every_cut_leaves_the_old_or_the_new(rt: HostRuntime) -> Result<(), Fail> {
     cut_with_each_rest(&rt, rt.alloc(), sizes(512, 8))?;
     cut_with_each_rest(&rt, rt.alloc(), sizes(4096, 1))?;
     cut_with_each_rest(&rt, rt.alloc(), sizes(4096, 8))?;
+    Ok(())
+}
+
+const CELLS: [[u8; 8]; 3] = [[0xa1; 8], [0xff; 8], [0xc3; 8]];
+
+/// Appends a cell with this arm, and opens the bank once the power is on. It has so many cells then.
+fn append_and_check(
+    rt: &impl Abort,
+    flash: &mut MemFlash,
+    place: BankPlace,
+    bank: &mut Bank,
+    step: (Option<Arm>, [u8; 8], u32),
+) -> Result<Bank, Fail>
+    requires after { ForSome step.0 (λ arm. 1 ≤ arm.after) }
+    requires same { bank.old.place ≡ place }
+    requires cell { bank.old.cell ≡ 8 }
+    requires sure { IsTrue bank.old.sure }
+    requires fits { Fits place (mem_state flash.old).geometry }
+    requires says { IfSome (mem_state flash.old).bytes (BankSays bank.old) }
+    ensures fits { Fits place (mem_state flash.new).geometry }
+    ensures place { IfOk result (λ bank. bank.place ≡ place) }
+    ensures cell { IfOk result (λ bank. bank.cell ≡ 8) }
+    ensures sure { IfOk result (λ bank. IsTrue bank.sure) }
+    ensures says { IfOk result (λ bank. IfSome (mem_state flash.new).bytes (BankSays bank)) }
+{
+    let (arm, cell, cells) = step;
+    if let Some(arm) = arm {
+        flash.arm(arm);
+    }
+    let _ = bank.append(flash, &cell);
+    flash.power_on();
+    let bank = checked(rt, flash, place, (1, X.as_slice()))?;
+    assert_eq!(rt; bank.cells(), cells, "{arm:?}");
+    Ok(bank)
+}
+
+/// A cell, one that is cut, and one more: the first and the last stand, and the one between where its gate was written.
+fn cut_in_a_cell(
+    rt: &impl Abort,
+    alloc: Global,
+    after: u32,
+    left: Left,
+    between: u32,
+) -> Result<(), Fail>
+    requires { 1 ≤ after }
+{
+    let [first, second, third] = CELLS;
+    let (mut flash, place) = fresh(alloc, sizes(512, 8))?;
+    let mut bank = Bank::make(&mut flash, place, 8, &X)?;
+    let mut bank = append_and_check(rt, &mut flash, place, &mut bank, (None, first, 1))?;
+    let arm = Some(cut(Region::Progress, after, left));
+    let mut bank = append_and_check(rt, &mut flash, place, &mut bank, (arm, second, 1 + between))?;
+    flash.arm(cut(Region::Scratch, 1, Left::Nothing));
+    let last = 1 + between;
+    let bank = append_and_check(rt, &mut flash, place, &mut bank, (None, third, last + 1))?;
+    let mut held = [0u8; 8];
+    if last < bank.cells() && bank.cells() == last + 1 {
+        bank.read_cell(&mut flash, 0, &mut held)?;
+        assert_eq!(rt; held, first, "{arm:?}");
+        bank.read_cell(&mut flash, last, &mut held)?;
+        assert_eq!(rt; held, third, "{arm:?}");
+    }
+    Ok(())
+}
+
+#[test]
+fn a_torn_cell_is_skipped_or_stands(rt: HostRuntime) -> Result<(), Fail> {
+    let rows = [
+        (1, Left::Nothing, 0),
+        (1, Left::Whole, 0),
+        (1, Left::Seed(7), 0),
+        (2, Left::Nothing, 0),
+        (2, Left::Whole, 1),
+        (2, Left::Seed(9), 0),
+        (3, Left::Nothing, 1),
+    ];
+    for (after, left, between) in rows {
+        if 1 <= after && between <= 1 {
+            cut_in_a_cell(&rt, rt.alloc(), after, left, between)?;
+        }
+    }
+    Ok(())
+}
+
+/// A body with room for one cell: the second is refused, before any operation.
+#[test]
+fn a_full_side_takes_no_cell(rt: HostRuntime) -> Result<(), Fail> {
+    let large = [0x33u8; 4056];
+    let (mut flash, place) = fresh(rt.alloc(), sizes(4096, 8))?;
+    let mut bank = Bank::make(&mut flash, place, 5, &large)?;
+    assert_eq!(rt; bank.append(&mut flash, b"first"), Ok(()));
+    let changes = flash.changes();
+    assert_eq!(rt; (changes, bank.cells()), (4, 1));
+    assert_eq!(rt; bank.append(&mut flash, b"other"), Err(BankFault::Full));
+    assert_eq!(rt; (flash.changes(), bank.is_sure()), (changes, true));
+    let mut held = [0u8; 5];
+    if 0 < bank.cells() {
+        bank.read_cell(&mut flash, 0, &mut held)?;
+    }
+    assert_eq!(rt; &held, b"first");
+    bank.replace(&mut flash, &X)?;
+    assert_eq!(rt;
+        (bank.cells(), bank.append(&mut flash, b"other")),
+        (0, Ok(()))
+    );
     Ok(())
 }
 
