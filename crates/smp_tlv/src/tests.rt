@@ -49,12 +49,13 @@ impl Bytes for Counted<'_> {
       holder = record {
         bytes = None;
         on = c.on;
-        geometry = record { page = 512; unit = 1; slot_pages = 4 };
+        geometry = record { page = 512; unit = 1; slot_pages = 4; images = 1 };
         faults = record { reads = c.failed; writes = 0; erases = 0 };
         troubles = None;
         aim = None;
         patience = None;
         bytes_read = Some c.asked;
+        changes = None;
       };
       start = 0;
       beside = [];
