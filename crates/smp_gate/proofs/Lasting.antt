@@ -1,10 +1,13 @@
 -- What a change elsewhere keeps of a bank, and how its generation moves over two changes.
 use Rattle.std.proofs.Common.{◌≡◌, ℕ, ◌+◌, Bool, true, false, Some, List, take, sym, ◌∙◌, ap, subst, arith}
 use Rattle.smp_flash.specs.Area.{area, Clear, Keeps}
+use Rattle.smp_flash.specs.State.{FlashState, End}
+use Rattle.smp_flash.specs.State.End.{Went, WentOff, Failed}
+use Rattle.smp_flash.specs.Calls.{Calls}
 use Rattle.smp_flash.specs.declared.layout.BankPlace.{BankPlace}
 use Rattle.smp_gate.specs.Side.{valid_side, length_in, AtMost}
 use Rattle.smp_gate.specs.Cells.{Used}
-use Rattle.smp_gate.specs.Newest.{newest, newest_side, newest_generation, generation_by, newer, content_of, content_in, AgesAtMost}
+use Rattle.smp_gate.specs.Newest.{Fits, newest, newest_side, newest_generation, generation_by, newer, content_of, content_in, AgesAtMost}
 use Rattle.smp_gate.specs.Bank.{BankState, BankSays, bar, current, other}
 use Rattle.smp_gate.proofs.Sides.{newest-Stands}
 
@@ -49,3 +52,12 @@ content_kept place cell spots old new a b keeps =
 
 pub ages_sum : (m n : ℕ) (place : BankPlace) (old middle new : List ℕ) → AgesAtMost m place old middle → AgesAtMost n place middle new → AgesAtMost (m + n) place old new
 ages_sum m n place old middle new f g = record { kept = omega (arith, f.kept, g.kept); most = omega (arith, f.most, g.most) }
+
+-- a call keeps the sizes of the flash, and so the place of a bank
+calls_sizes : (spots : List (ℕ × ℕ)) (end : End) (a b : FlashState) → Calls spots end a b → b.geometry ≡ a.geometry
+calls_sizes spots Went a b f = f.passes.geometry
+calls_sizes spots WentOff a b f = f.passes.geometry
+calls_sizes spots (Failed operation) a b f = f.passes.geometry
+
+pub fits_kept : (place : BankPlace) (spots : List (ℕ × ℕ)) (end : End) (a b : FlashState) → Calls spots end a b → Fits place a.geometry → Fits place b.geometry
+fits_kept place spots end a b f fits = subst (Fits place) (sym (calls_sizes spots end a b f)) fits

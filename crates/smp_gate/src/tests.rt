@@ -299,6 +299,17 @@ fn every_cut_leaves_the_old_or_the_new(rt: HostRuntime) -> Result<(), Fail> {
 
 const CELLS: [[u8; 8]; 3] = [[0xa1; 8], [0xff; 8], [0xc3; 8]];
 
+/// Arms the flash, where there is an arm.
+fn arm_with(flash: &mut MemFlash, arm: Option<Arm>)
+    requires { ForSome arm (λ arm. 1 ≤ arm.after) }
+    ensures bytes { (mem_state flash.new).bytes ≡ (mem_state flash.old).bytes }
+    ensures geometry { (mem_state flash.new).geometry ≡ (mem_state flash.old).geometry }
+{
+    if let Some(arm) = arm {
+        flash.arm(arm);
+    }
+}
+
 /// Appends a cell with this arm, and opens the bank once the power is on. It has so many cells then.
 fn append_and_check(
     rt: &impl Abort,
@@ -320,9 +331,7 @@ fn append_and_check(
     ensures says { IfOk result (λ bank. IfSome (mem_state flash.new).bytes (BankSays bank)) }
 {
     let (arm, cell, cells) = step;
-    if let Some(arm) = arm {
-        flash.arm(arm);
-    }
+    arm_with(flash, arm);
     let _ = bank.append(flash, &cell);
     flash.power_on();
     let bank = checked(rt, flash, place, (1, X.as_slice()))?;
@@ -330,49 +339,59 @@ fn append_and_check(
     Ok(bank)
 }
 
-/// A cell, one that is cut, and one more: the first and the last stand, and the one between where its gate was written.
+/// Whether the bank holds this cell of this number.
+fn has_cell(flash: &mut MemFlash, bank: &Bank, n: u32, cell: [u8; 8]) -> Result<bool, BankFault>
+    requires cell { bank.now.cell ≡ 8 }
+    requires sure { IsTrue bank.now.sure }
+    requires fits { Fits bank.now.place (mem_state flash.old).geometry }
+    requires says { IfSome (mem_state flash.old).bytes (BankSays bank.now) }
+{
+    if n >= bank.cells() {
+        return Ok(false);
+    }
+    let mut held = [0u8; 8];
+    bank.read_cell(flash, n, &mut held)?;
+    Ok(held == cell)
+}
+
+/// A cell, one that is cut, and one more, which stands behind the first, and behind the second where its gate was written.
 fn cut_in_a_cell(
     rt: &impl Abort,
     alloc: Global,
     after: u32,
     left: Left,
-    between: u32,
+    stands: bool,
 ) -> Result<(), Fail>
     requires { 1 ≤ after }
 {
     let [first, second, third] = CELLS;
+    let (two, all) = if stands { (2, 3) } else { (1, 2) };
     let (mut flash, place) = fresh(alloc, sizes(512, 8))?;
     let mut bank = Bank::make(&mut flash, place, 8, &X)?;
     let mut bank = append_and_check(rt, &mut flash, place, &mut bank, (None, first, 1))?;
     let arm = Some(cut(Region::Progress, after, left));
-    let mut bank = append_and_check(rt, &mut flash, place, &mut bank, (arm, second, 1 + between))?;
-    flash.arm(cut(Region::Scratch, 1, Left::Nothing));
-    let last = 1 + between;
-    let bank = append_and_check(rt, &mut flash, place, &mut bank, (None, third, last + 1))?;
-    let mut held = [0u8; 8];
-    if last < bank.cells() && bank.cells() == last + 1 {
-        bank.read_cell(&mut flash, 0, &mut held)?;
-        assert_eq!(rt; held, first, "{arm:?}");
-        bank.read_cell(&mut flash, last, &mut held)?;
-        assert_eq!(rt; held, third, "{arm:?}");
-    }
+    let mut bank = append_and_check(rt, &mut flash, place, &mut bank, (arm, second, two))?;
+    let elsewhere = Some(cut(Region::Scratch, 1, Left::Nothing));
+    let bank = append_and_check(rt, &mut flash, place, &mut bank, (elsewhere, third, all))?;
+    let has_last = has_cell(&mut flash, &bank, two, third)?;
+    assert!(rt; has_last, "{arm:?}");
     Ok(())
 }
 
 #[test]
 fn a_torn_cell_is_skipped_or_stands(rt: HostRuntime) -> Result<(), Fail> {
     let rows = [
-        (1, Left::Nothing, 0),
-        (1, Left::Whole, 0),
-        (1, Left::Seed(7), 0),
-        (2, Left::Nothing, 0),
-        (2, Left::Whole, 1),
-        (2, Left::Seed(9), 0),
-        (3, Left::Nothing, 1),
+        (1, Left::Nothing, false),
+        (1, Left::Whole, false),
+        (1, Left::Seed(7), false),
+        (2, Left::Nothing, false),
+        (2, Left::Whole, true),
+        (2, Left::Seed(9), false),
+        (3, Left::Nothing, true),
     ];
-    for (after, left, between) in rows {
-        if 1 <= after && between <= 1 {
-            cut_in_a_cell(&rt, rt.alloc(), after, left, between)?;
+    for (after, left, stands) in rows {
+        if 1 <= after {
+            cut_in_a_cell(&rt, rt.alloc(), after, left, stands)?;
         }
     }
     Ok(())
@@ -384,21 +403,11 @@ fn a_full_side_takes_no_cell(rt: HostRuntime) -> Result<(), Fail> {
     let large = [0x33u8; 4056];
     let (mut flash, place) = fresh(rt.alloc(), sizes(4096, 8))?;
     let mut bank = Bank::make(&mut flash, place, 5, &large)?;
-    assert_eq!(rt; bank.append(&mut flash, b"first"), Ok(()));
-    let changes = flash.changes();
-    assert_eq!(rt; (changes, bank.cells()), (4, 1));
+    bank.append(&mut flash, b"first")?;
+    let before = (flash.changes(), flash.read_bytes());
     assert_eq!(rt; bank.append(&mut flash, b"other"), Err(BankFault::Full));
-    assert_eq!(rt; (flash.changes(), bank.is_sure()), (changes, true));
-    let mut held = [0u8; 5];
-    if 0 < bank.cells() {
-        bank.read_cell(&mut flash, 0, &mut held)?;
-    }
-    assert_eq!(rt; &held, b"first");
-    bank.replace(&mut flash, &X)?;
-    assert_eq!(rt;
-        (bank.cells(), bank.append(&mut flash, b"other")),
-        (0, Ok(()))
-    );
+    assert_eq!(rt; (flash.changes(), flash.read_bytes()), before);
+    assert_eq!(rt; (before, bank.cells(), bank.is_sure()), ((4, 0), 1, true));
     Ok(())
 }
 
