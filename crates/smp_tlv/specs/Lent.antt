@@ -12,12 +12,13 @@ abbrev pub steady : FlashState
 steady = record {
   bytes = None;
   on = true;
-  geometry = record { page = 512; unit = 1; slot_pages = 4 };
+  geometry = record { page = 512; unit = 1; slot_pages = 4; images = 1 };
   faults = record { reads = 0; writes = 0; erases = 0 };
   troubles = Some (record { cuts = 0; changes = 0; reads = 0 });
   aim = None;
   patience = None;
   bytes_read = None;
+  changes = None;
 }
 
 abbrev pub lent_state : Lent → BytesState
