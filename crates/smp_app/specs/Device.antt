@@ -4,17 +4,18 @@ use Rattle.smp_header.specs.Message.{Message, packet}
 use Rattle.smp_reply.specs.Room.{room_of}
 use Rattle.smp_reply.specs.Sendable.{IsSendable}
 use Rattle.smp_model.specs.Meant.{Meant, reset}
-use Rattle.smp_model.specs.Meaning.{meaning, not_supported}
+use Rattle.smp_model.specs.Meaning.{meaning}
 use Rattle.smp_model.specs.Said.{Said, smp_error, is_error, reply_bytes}
 use Rattle.smp_model.specs.declared.device.Counters.{Counters}
 use Rattle.smp_model.specs.Counters.{after_reply, after_drop, os_reply}
+use Rattle.smp_model.specs.declared.error.TheConstants.{NOT_SUPPORTED}
 pub use Rattle.smp_model.specs.Handled.{is_request}
 
 -- The reply to a request, with the counters before it. What is not built yet is not supported: a reset, and the groups
 -- of images, settings and files.
 abbrev pub reply_to_request : Counters → Meant → Said
-reply_to_request counters reset = smp_error not_supported
-reply_to_request counters request = unwrap_or (os_reply counters request) (smp_error not_supported)
+reply_to_request counters reset = smp_error NOT_SUPPORTED
+reply_to_request counters request = unwrap_or (os_reply counters request) (smp_error NOT_SUPPORTED)
 
 -- The reply to what a packet means.
 abbrev pub reply_to_meaning : Counters → Result Meant ℕ → Said

@@ -8,12 +8,10 @@ ghost use Rattle.smp_app.specs.Device.{reply_to, handled, Fitting};
 use arrayvec::ArrayVec;
 use smp_groups::Counts;
 use smp_header::{Packet, read_packet};
+use smp_model::error::NOT_SUPPORTED;
 use smp_model::{Reply, Request};
 use smp_reply::{fits_within, write_reply};
 use smp_request::request_of;
-
-/// The SMP error number of what is not supported.
-const NOT_SUPPORTED: u32 = 8;
 
 /// The reply to a request, with the counters before it.
 #[tactic(auto, using(crate::proofs::Room::os_fits))]

@@ -7,6 +7,7 @@ ghost use Rattle.smp_model.specs.Said.{said_of};
 ghost use Rattle.smp_model.specs.Counters.{after_drop, after_reply, os_reply, stat_group_reply};
 ghost use Rattle.smp_groups.specs.Counters.{counters_of};
 
+use smp_model::error::{NO_SUCH_STATISTICS, STATISTICS_GROUP};
 use smp_model::{Reply, Request};
 
 #[cfg(test)]
@@ -14,12 +15,6 @@ mod tests;
 
 /// The one group of statistics.
 const STATISTICS: &str = "smp";
-
-/// The number of the group of statistics as a group of the protocol.
-const STATISTICS_GROUP: u16 = 2;
-
-/// Its error for another name.
-const NO_SUCH_STATISTICS: u32 = 2;
 
 /// What a device has counted since it was started. Each number stays at 4294967295 once it is there.
 #[derive(Clone, Copy, Debug, Default, PartialEq, Eq)]

@@ -1,22 +1,34 @@
 pub mod PacketAgain
 pub mod Keys
-pub mod StoredSize
-pub mod PlainImage
-pub mod Copies
-mod Sound
 pub mod Tlvs
 pub mod Made
 mod Cases
-mod Volatile
+mod OnSides
+mod RequestKinds
+mod GoodUploads
+mod DueSteps
 mod Pending
 mod Marks
-mod Offsets
-mod ImageSteps
 mod Saves
+mod Requests
+mod Replies
+mod UploadLaws
+mod Covers
+mod Consistency
 mod Refusals
+mod Starts
+mod OneImage
+mod FirstSlot
+mod Unnamed
+mod Lifts
+mod MatchTold
+mod PacketTexts
+mod HandledDevices
+mod Keeping
+mod DropsDue
+mod FlashUses
 mod StoredForms
 mod NamedThings
-mod Consistency
 pub mod ImageAreas
 pub mod ImageHeaders
 pub mod ImageTests

@@ -1,26 +1,36 @@
--- A refusal has no steps but those of settling.
-use Rattle.std.proofs.Common.{◌≡◌, ◌+◌, ◌-◌, ◌==◌, not, ◌⊎◌, inl, inr, ℕ, List, [], ◌∷◌, ◌++◌, length, Bool, true, false, Option, Some, None, refl, ap, ◌∙◌, arith, append-nil, if◌then◌else◌, nat_lt}
+-- A refusal has no steps but those of settling, and leaves the target of parts; the target is the image of the last start that
+-- was answered with an offset.
+use Rattle.std.proofs.Common.{◌≡◌, ◌+◌, ◌-◌, ◌==◌, not, ◌⊎◌, inl, inr, ℕ, zero, suc, List, [], ◌∷◌, ◌++◌, length, Bool, true, false, Option, Some, None, refl, sym, ap, subst, ◌∙◌, arith, append-nil, if◌then◌else◌, nat_lt}
+use Rattle.std.specs.Prelude.{Result, Ok, Err, IfSome}
 use Rattle.smp_model.specs.declared.device.AbstractDevice.{AbstractDevice}
+use Rattle.smp_model.specs.declared.device.Side.{Side}
 use Rattle.smp_model.specs.declared.device.Sizes.{Sizes}
 use Rattle.smp_model.specs.declared.device.StoredFile.{StoredFile}
-use Rattle.smp_model.specs.declared.device.Upload.{Upload}
 use Rattle.smp_model.specs.declared.setting.Setting.{Setting}
-use Rattle.smp_model.specs.declared.upload.Announcement.{Announcement}
 use Rattle.smp_model.specs.declared.upload.Mark.{Mark}
 use Rattle.smp_model.specs.Does.{does}
+use Rattle.smp_model.specs.Due.{image_for, IsStart, IsStepDue}
 use Rattle.smp_model.specs.FileGroup.{if_file, about_file, reads_held, is_sha256, hashes_held, is_no_free_file, begins_file, continues_file, writes_file}
 use Rattle.smp_model.specs.Files.{is_file_name, longest_file, file_of}
-use Rattle.smp_model.specs.Image.{good_image}
-use Rattle.smp_model.specs.ImageGroup.{completes, keeps, takes_part, part_at, begins, new_start, resumes, start_at, has_wrong_size, begins_with_magic, start_of, uploads, wants, refuses_image, lists_after, mark_of, same_mark, marks, has_hash, confirms, sets_hash, sets_no_hash, sets_image, erase_of, erases}
+use Rattle.smp_model.specs.ImageGroup.{part_at, start_at, side_of, is_offset, aims, begins_on, uploads, refuses_image, lists_after, lists_with, mark_of, same_mark, marks, confirms, runs, holds, confirms_on, marks_on, sets_hash, sets_no_hash, sets_image, erase_of, erases_on, erases}
+use Rattle.smp_model.specs.Laws.{EachStep, Along, SettlesAtMost}
 use Rattle.smp_model.specs.Meant as meant
 use Rattle.smp_model.specs.Meant.{Meant}
-use Rattle.smp_model.specs.Response.{Response, settling}
-use Rattle.smp_model.specs.Said.{is_error}
+use Rattle.smp_model.specs.Response.{Response, SideResponse, settling, settling_side}
+use Rattle.smp_model.specs.Said as said
+use Rattle.smp_model.specs.Said.{Said, is_error, if_some}
 use Rattle.smp_model.specs.Settings.{value_of, is_setting_name, is_setting_value, is_full}
 use Rattle.smp_model.specs.SettingsGroup.{reads_value, reads_setting, writes_setting, deletes_value, deletes_setting}
-use Rattle.smp_model.specs.Steps.{settle, settle_steps}
-use Rattle.smp_model.specs.Uploads.{differs, kept, uploaded_image, is_resumed_by}
+use Rattle.smp_model.specs.Sides.{SideStep, side_apply, side_settle_steps, side_settle}
+use Rattle.smp_model.specs.Steps.{Change, write_setting, delete_setting, load_settings, begin_file, append_file, aim_at, Step, OnSide, Save, Run, Part, with_side, side_at, apply, applied, on_side, settle, settle_steps, settle_steps_of}
 use Rattle.smp_model.proofs.Cases.{by_if, either_way}
+use Rattle.smp_model.proofs.DueSteps.{AllDue, does_due}
+use Rattle.smp_model.proofs.OnSides.{along_front, kept_along, each_more, applied_more}
+use Rattle.smp_model.proofs.Replies.{RefusesSide, start_refuses, part_at_refuses, erase_refuses}
+use Rattle.smp_model.proofs.Requests.{upload_cases, starting}
+use Rattle.smp_model.proofs.UploadLaws.{steps_at}
+use Rattle.smp_model.specs.declared.error.TheConstants.{HASH_NOT_FOUND, INVALID_DIGEST, INVALID_SLOT}
+use Rattle.smp_model.proofs.RequestKinds.{by_kind}
 
 -- an error that comes without steps
 abbrev pub Refuses : Response → Type 0
@@ -28,184 +38,185 @@ Refuses r = is_error r.reply ≡ true → r.steps ≡ []
 
 -- an error that comes with the steps of settling at most
 abbrev pub Settles : AbstractDevice → Response → Type 0
-Settles d r = is_error r.reply ≡ true → (r.steps ≡ []) ⊎ (r.steps ≡ settle_steps d)
+Settles d r = is_error r.reply ≡ true → SettlesAtMost d r.steps
 
 no_error : false ≡ true → {A : Type 0} → A
 no_error h = cc
 
-bare : (d : AbstractDevice) (r : Response) → Refuses r → Settles d r
-bare d r h e = inl (h e)
+settled : (d : AbstractDevice) (response : AbstractDevice → Response) → Refuses (response (settle d)) → Settles d (settling d response)
+settled d response h e = inr (inl (ap (λ steps. settle_steps d ++ steps) (h e) ∙ append-nil (settle_steps d)))
 
-settled : (d : AbstractDevice) (response : AbstractDevice → Response) → ((e : AbstractDevice) → Refuses (response e)) → Settles d (settling d response)
-settled d response h e = inr (ap (λ steps. settle_steps d ++ steps) (h (settle d) e) ∙ append-nil (settle_steps d))
+settled_on : (i : ℕ) (d : AbstractDevice) (s : Side) (between : List Step) (r : SideResponse) → side_at i d ≡ Some s → (is_error r.reply ≡ true → between ≡ []) → RefusesSide r
+    → Settles d (settling_side i s between r)
+settled_on i d s between r found none h e =
+    inr (inr (
+      i,
+      (
+          ap (λ x. on_side i (side_settle_steps s) ++ (x ++ on_side i r.steps)) (none e)
+          ∙ (ap (λ x. on_side i (side_settle_steps s) ++ on_side i x) (h e) ∙ (append-nil (on_side i (side_settle_steps s)) ∙ steps_at i d s found))
+          ),
+    ))
 
-completes_refuses : (held bytes : List ℕ) (digest : Option (List ℕ)) → is_error (completes held bytes digest).reply ≡ true → ⊥
-completes_refuses held bytes None = λ h. no_error h
-completes_refuses held bytes (Some d) = either_way (λ (r : Response). is_error r.reply ≡ true → ⊥) (differs (Some d) (held ++ bytes)) _ _ (λ h. no_error h) (λ h. no_error h)
+error_no_offset : (r : Said) → is_error r ≡ true → is_offset r ≡ false
+error_no_offset (said.smp_error n) e = refl
+error_no_offset (said.group_error g n) e = refl
+error_no_offset said.empty e = cc
+error_no_offset (said.echo t) e = cc
+error_no_offset said.parameters e = cc
+error_no_offset (said.stat_group x y z) e = cc
+error_no_offset said.stat_list e = cc
+error_no_offset (said.images x y) e = cc
+error_no_offset (said.offset o matched) e = cc
+error_no_offset (said.setting val) e = cc
+error_no_offset (said.file_part o len part) e = cc
+error_no_offset (said.file_length len) e = cc
+error_no_offset (said.file_hash o len output) e = cc
+error_no_offset said.file_types e = cc
 
-keeps_refuses : (a : Announcement) (held bytes : List ℕ) → is_error (keeps a held bytes).reply ≡ true → ⊥
-keeps_refuses a held [] = λ h. no_error h
-keeps_refuses a held (x ∷ xs) =
-    either_way (λ (r : Response). is_error r.reply ≡ true → ⊥) (length held + length (x ∷ xs) == a.length) (completes held (x ∷ xs) a.digest) _
-    (completes_refuses held (x ∷ xs) a.digest) (λ h. no_error h)
+no_aims : (i : ℕ) (r : Said) → is_error r ≡ true → aims i r ≡ []
+no_aims i r e = ap (λ b. if b then Run (aim_at i) ∷ [] else []) (error_no_offset r e)
 
-part_refuses : (unit : ℕ) (a : Announcement) (held bytes : List ℕ) → Refuses (takes_part unit a held bytes)
-part_refuses unit a held bytes =
-    either_way Refuses (nat_lt a.length (length held + length bytes)) (refuses_image 31) (keeps a held (kept unit a.length (length held) bytes))
-    (λ h. refl) (λ h. absurd (keeps_refuses a held (kept unit a.length (length held) bytes) h))
+uploads_refuse : (sizes : Sizes) (d : AbstractDevice) (image len : Option ℕ) (off : ℕ) (sha : Option (List ℕ)) (part : List ℕ) → Settles d (uploads sizes d image len off sha part)
+uploads_refuse sizes d image len off sha part =
+    upload_cases (Settles d) sizes d image len off sha part (λ n e. inl refl)
+    (λ s n found l z long. settled_on i d s (aims i (starting sizes s n sha part).reply) (starting sizes s n sha part) found (no_aims i (starting sizes s n sha part).reply)
+    (start_refuses sizes.unit s.pending (side_settle s).upload (record { length = n; digest = sha }) part))
+    (λ s found z. settled_on i d s [] (part_at sizes.unit off sha part (side_settle s).upload) found (λ _. refl) (part_at_refuses sizes.unit (side_settle s).upload off sha part))
+  where
+    i : ℕ
+    i = side_of d.target image off sha
 
--- a part that fits is not refused
-from_start : (size : ℕ) (bytes : List ℕ) → nat_lt size (length bytes) ≡ false → nat_lt size (0 + length bytes) ≡ false
-from_start size bytes fits = let none : 0 + length bytes ≡ length bytes = omega arith in ap (nat_lt size) none ∙ fits
+with_refuses : (i : ℕ) (r : Result (List SideStep) ℕ) (e : AbstractDevice) → Refuses (lists_with i r e)
+with_refuses i (Ok steps) e = λ h. no_error h
+with_refuses i (Err n) e = λ h. refl
 
-not_both : (b : Bool) → b ≡ true → b ≡ false → ⊥
-not_both b e f = cc
+confirms_on_refuses : (i : ℕ) (confirm : Bool) (o : Option Side) (e : AbstractDevice) → Refuses (confirms_on i confirm o e)
+confirms_on_refuses i confirm None e = λ h. refl
+confirms_on_refuses i confirm (Some s) e = with_refuses i (confirms confirm s.confirmed) e
 
-fitting_part : (unit : ℕ) (a : Announcement) (bytes : List ℕ) → nat_lt a.length (length bytes) ≡ false → is_error (takes_part unit a [] bytes).reply ≡ true → ⊥
-fitting_part unit a bytes fits =
-    by_if (λ (r : Response). is_error r.reply ≡ true → ⊥) (nat_lt a.length (0 + length bytes)) (refuses_image 31) (keeps a [] (kept unit a.length 0 bytes))
-    (λ e. absurd (not_both (nat_lt a.length (0 + length bytes)) e (from_start a.length bytes fits))) (λ e. keeps_refuses a [] (kept unit a.length 0 bytes))
-
-begins_refuses : (unit : ℕ) (a : Announcement) (bytes : List ℕ) → Refuses (begins unit a bytes)
-begins_refuses unit a bytes =
-    by_if Refuses (nat_lt a.length (length bytes)) (refuses_image 31) _ (λ e h. refl) (λ e h. absurd (fitting_part unit a bytes e h))
-
-new_refuses : (unit : ℕ) (p : Option Mark) (a : Announcement) (bytes : List ℕ) → Refuses (new_start unit a bytes p)
-new_refuses unit (Some m) a bytes h = refl
-new_refuses unit None a bytes h = begins_refuses unit a bytes h
-
-resumed_refuses : (unit : ℕ) (a : Announcement) (held bytes : List ℕ) → Refuses (resumes unit a held bytes)
-resumed_refuses unit a [] bytes = part_refuses unit a [] bytes
-resumed_refuses unit a (x ∷ xs) bytes = λ h. refl
-
-start_refuses : (unit : ℕ) (p : Option Mark) (u : Option Upload) (a : Announcement) (bytes : List ℕ) → Refuses (start_at unit a bytes p u)
-start_refuses unit p None a bytes = new_refuses unit p a bytes
-start_refuses unit p (Some u) a bytes =
-    either_way Refuses (is_resumed_by u.announcement a) _ _ (resumed_refuses unit u.announcement u.accepted bytes) (new_refuses unit p a bytes)
-
-part_at_refuses : (unit : ℕ) (u : Option Upload) (off : ℕ) (bytes : List ℕ) → Refuses (part_at unit off bytes u)
-part_at_refuses unit None off bytes = λ h. refl
-part_at_refuses unit (Some u) off bytes =
-    either_way Refuses (off == length u.accepted) _ (wants (length u.accepted)) (part_refuses unit u.announcement u.accepted bytes) (λ h. refl)
-
-start_of_refuses : (sizes : Sizes) (d : AbstractDevice) (len : Option ℕ) (sha : Option (List ℕ)) (bytes : List ℕ) → Settles d (start_of sizes d len sha bytes)
-start_of_refuses sizes d None sha bytes = λ h. inl refl
-start_of_refuses sizes d (Some n) sha bytes =
-    either_way (Settles d) (has_wrong_size sha) (refuses_image 24) _ (λ h. inl refl)
-    (either_way (Settles d) (nat_lt (sizes.slot - sizes.page) n) (refuses_image 30) _ (λ h. inl refl)
-    (either_way (Settles d) (nat_lt (length bytes) 32) (refuses_image 22) _ (λ h. inl refl)
-    (either_way (Settles d) (not (begins_with_magic bytes)) (refuses_image 23) _ (λ h. inl refl)
-    (settled d (λ e. start_at sizes.unit (record { length = n; digest = sha }) bytes e.side.pending e.side.upload)
-    (λ e. start_refuses sizes.unit e.side.pending e.side.upload (record { length = n; digest = sha }) bytes)))))
-
-uploads_refuses : (sizes : Sizes) (d : AbstractDevice) (image : ℕ) (len : Option ℕ) (off : ℕ) (sha : Option (List ℕ)) (part : List ℕ) → Settles d (uploads sizes d image len off sha part)
-uploads_refuses sizes d image len off sha part =
-    either_way (Settles d) (not (image == 0)) (refuses_image 14) _ (λ h. inl refl)
-    (either_way (Settles d) (off == 0) _ _ (start_of_refuses sizes d len sha part)
-    (settled d (λ e. part_at sizes.unit off part e.side.upload) (λ e. part_at_refuses sizes.unit e.side.upload off part)))
-
-marks_refuses : (m : Mark) (p : Option Mark) (e : AbstractDevice) → Refuses (marks m p e)
-marks_refuses m None e = λ h. no_error h
-marks_refuses m (Some k) e = either_way Refuses (same_mark k m) (lists_after [] e) (refuses_image 28) (λ h. refl) (λ h. refl)
-
-confirms_refuses : (confirm confirmed : Bool) (e : AbstractDevice) → Refuses (confirms confirm confirmed e)
-confirms_refuses true false e = λ h. no_error h
-confirms_refuses true true e = λ h. refl
-confirms_refuses false confirmed e = λ h. refl
+marks_on_refuses : (i : ℕ) (confirm : Bool) (o : Option Side) (e : AbstractDevice) → Refuses (marks_on i confirm o e)
+marks_on_refuses i confirm None e = λ h. refl
+marks_on_refuses i confirm (Some s) e = with_refuses i (marks (mark_of confirm) s.pending) e
 
 hash_refuses : (hash : List ℕ) (confirm : Bool) (e : AbstractDevice) → Refuses (sets_hash hash confirm e)
 hash_refuses hash confirm e =
-    either_way Refuses (has_hash hash (good_image e.side.active)) _ _ (confirms_refuses confirm e.side.confirmed e)
-    (either_way Refuses (has_hash hash (uploaded_image e.side.upload)) _ (refuses_image 8) (marks_refuses (mark_of confirm) e.side.pending e) (λ h. refl))
+    either_way Refuses (runs hash (side_at 0 e)) _ _ (confirms_on_refuses 0 confirm (side_at 0 e) e)
+    (either_way Refuses (runs hash (side_at 1 e)) _ _ (confirms_on_refuses 1 confirm (side_at 1 e) e)
+    (either_way Refuses (holds hash (side_at 0 e)) _ _ (marks_on_refuses 0 confirm (side_at 0 e) e)
+    (either_way Refuses (holds hash (side_at 1 e)) _ (refuses_image HASH_NOT_FOUND) (marks_on_refuses 1 confirm (side_at 1 e) e) (λ h. refl))))
 
 no_hash_refuses : (d : AbstractDevice) (confirm : Bool) → Settles d (sets_no_hash d confirm)
-no_hash_refuses d true = settled d (λ e. confirms true e.side.confirmed e) (λ e. confirms_refuses true e.side.confirmed e)
+no_hash_refuses d true = settled d (λ e. confirms_on 0 true (side_at 0 e) e) (confirms_on_refuses 0 true (side_at 0 (settle d)) (settle d))
 no_hash_refuses d false = λ h. inl refl
 
 set_refuses : (d : AbstractDevice) (hash : Option (List ℕ)) (confirm : Bool) → Settles d (sets_image d hash confirm)
 set_refuses d None confirm = no_hash_refuses d confirm
 set_refuses d (Some []) confirm = no_hash_refuses d confirm
 set_refuses d (Some (x ∷ xs)) confirm =
-    either_way (Settles d) (length (x ∷ xs) == 32) _ (refuses_image 24) (settled d (sets_hash (x ∷ xs) confirm) (hash_refuses (x ∷ xs) confirm)) (λ h. inl refl)
+    either_way (Settles d) (length (x ∷ xs) == 32) _ (refuses_image INVALID_DIGEST) (settled d (sets_hash (x ∷ xs) confirm) (hash_refuses (x ∷ xs) confirm (settle d))) (λ h. inl refl)
 
-erase_refuses : (p : Option Mark) → Refuses (erase_of p)
-erase_refuses None = λ h. no_error h
-erase_refuses (Some m) = λ h. refl
+erases_on_refuses : (i : ℕ) (d : AbstractDevice) (o : Option Side) → side_at i d ≡ o → Settles d (erases_on i o)
+erases_on_refuses i d None e = λ h. inl refl
+erases_on_refuses i d (Some s) e = settled_on i d s [] (erase_of s.pending) e (λ _. refl) (erase_refuses s.pending)
 
-erases_refuses : (d : AbstractDevice) (slot : ℕ) → Settles d (erases d slot)
-erases_refuses d slot =
-    either_way (Settles d) (slot == 1) _ (refuses_image 14) (settled d (λ e. erase_of e.side.pending) (λ e. erase_refuses e.side.pending)) (λ h. inl refl)
-
--- settings and files
-refused : (b : Bool) (x y : Response) → Refuses x → Refuses y → Refuses (if b then x else y)
-refused b x y p q = either_way Refuses b x y p q
-
-value_refuses : (size : Option ℕ) (val : Option (List ℕ)) → Refuses (reads_value size val)
-value_refuses size None h = refl
-value_refuses size (Some val) h = refl
-
-reading_refuses : (running : List Setting) (name : List ℕ) (size : Option ℕ) → Refuses (reads_setting running name size)
-reading_refuses running name size = refused (not (is_setting_name name)) _ _ (λ h. refl) (value_refuses size (value_of name running))
-
-writing_refuses : (running : List Setting) (name val : List ℕ) → Refuses (writes_setting running name val)
-writing_refuses running name val =
-    refused (not (is_setting_name name)) _ _ (λ h. refl)
-    (refused (not (is_setting_value val)) _ _ (λ h. refl)
-    (refused (is_full name val running) _ _ (λ h. refl) (λ h. no_error h)))
-
-delete_refuses : (name : List ℕ) (val : Option (List ℕ)) → Refuses (deletes_value name val)
-delete_refuses name None = λ h. refl
-delete_refuses name (Some val) = λ h. no_error h
-
-deleting_refuses : (running : List Setting) (name : List ℕ) → Refuses (deletes_setting running name)
-deleting_refuses running name = refused (not (is_setting_name name)) _ _ (λ h. refl) (delete_refuses name (value_of name running))
-
-if_file_refuses : (f : Option StoredFile) (response : StoredFile → Response) → ((g : StoredFile) → Refuses (response g)) → Refuses (if_file f response)
-if_file_refuses None response k h = refl
-if_file_refuses (Some f) response k h = k f h
-
-about_refuses : (files : List StoredFile) (name : List ℕ) (response : StoredFile → Response) → ((g : StoredFile) → Refuses (response g)) → Refuses (about_file files name response)
-about_refuses files name response k = refused (not (is_file_name name)) _ _ (λ h. refl) (if_file_refuses (file_of name files) response k)
-
-begin_refuses : (files : List StoredFile) (name part : List ℕ) (len : Option ℕ) → Refuses (begins_file files name part len)
-begin_refuses files name part None = λ h. refl
-begin_refuses files name part (Some len) =
-    refused (nat_lt longest_file len) _ _ (λ h. refl)
-    (refused (nat_lt len (length part)) _ _ (λ h. refl)
-    (refused (is_no_free_file files name) _ _ (λ h. refl) (λ h. no_error h)))
-
-continue_refuses : (off : ℕ) (part : List ℕ) (f : StoredFile) → Refuses (continues_file off part f)
-continue_refuses off part f =
-    refused (not (off == length f.held)) _ _ (λ h. refl)
-    (refused (nat_lt f.announced (length f.held + length part)) _ _ (λ h. refl) (λ h. no_error h))
-
-writes_refuses : (files : List StoredFile) (off : ℕ) (part : List ℕ) (len : Option ℕ) (name : List ℕ) → Refuses (writes_file files off part len name)
-writes_refuses files off part len name =
-    refused (not (is_file_name name)) _ _ (λ h. refl)
-    (refused (off == 0) _ _ (begin_refuses files name part len) (if_file_refuses (file_of name files) (continues_file off part) (continue_refuses off part)))
-
-hash_held_refuses : (kind : Option (List ℕ)) (off : ℕ) (len : Option ℕ) (f : StoredFile) → Refuses (hashes_held kind off len f)
-hash_held_refuses kind off len f = refused (not (is_sha256 kind)) _ _ (λ h. refl) (refused (nat_lt (length f.held) off) _ _ (λ h. refl) (λ h. refl))
+erases_refuse : (d : AbstractDevice) (slot : ℕ) → Settles d (erases d slot)
+erases_refuse d slot =
+    either_way (Settles d) (slot == 1) _ _ (erases_on_refuses 0 d (side_at 0 d) refl)
+    (either_way (Settles d) (slot == 3) _ (refuses_image INVALID_SLOT) (erases_on_refuses 1 d (side_at 1 d) refl) (λ h. inl refl))
 
 pub does_refuse : (sizes : Sizes) (d : AbstractDevice) (m : Meant) → Settles d (does sizes d m)
-does_refuse sizes d (meant.echo text) h = inl refl
-does_refuse sizes d meant.reset h = inl refl
-does_refuse sizes d meant.parameters h = inl refl
-does_refuse sizes d meant.image_list h = no_error h
-does_refuse sizes d (meant.image_set hash confirm) h = set_refuses d hash confirm h
-does_refuse sizes d (meant.upload image len off sha part) h = uploads_refuses sizes d image len off sha part h
-does_refuse sizes d (meant.erase slot) h = erases_refuses d slot h
-does_refuse sizes d (meant.stat_group name) h = inl refl
-does_refuse sizes d meant.stat_list h = inl refl
-does_refuse sizes d (meant.setting_read name size) h = inl (reading_refuses d.running name size h)
-does_refuse sizes d (meant.setting_write name val) h = inl (writing_refuses d.running name val h)
-does_refuse sizes d (meant.setting_delete name) h = inl (deleting_refuses d.running name h)
-does_refuse sizes d meant.commit h = inl refl
-does_refuse sizes d meant.load h = no_error h
-does_refuse sizes d meant.save h = no_error h
-does_refuse sizes d (meant.file_read off name) h = inl (about_refuses d.files name (reads_held off) (λ f. refused (nat_lt (length f.held) off) _ _ (λ k. refl) (λ k. refl)) h)
-does_refuse sizes d (meant.file_write off part len name) h = inl (writes_refuses d.files off part len name h)
-does_refuse sizes d (meant.file_status name) h = inl (about_refuses d.files name _ (λ f k. refl) h)
-does_refuse sizes d (meant.file_hash name kind off len) h = inl (about_refuses d.files name (hashes_held kind off len) (hash_held_refuses kind off len) h)
-does_refuse sizes d meant.file_types h = inl refl
-does_refuse sizes d meant.file_close h = inl refl
+does_refuse sizes d = by_kind sizes d (λ m. Settles d (does sizes d m)) (record {
+  still = λ m none h. inl none;
+  runs = λ m r h. inl (r.refuses h);
+  save = λ h. no_error h;
+  image_list = λ h. no_error h;
+  image_set = λ hash confirm. set_refuses d hash confirm;
+  upload = λ image len off sha part. uploads_refuse sizes d image len off sha part;
+  erase = λ slot. erases_refuse d slot;
+})
+
+-- The target of parts.
+target_with : (i : ℕ) (f : Side → Side) (d : AbstractDevice) → (with_side i f d).target ≡ d.target
+target_with zero f d = refl
+target_with (suc zero) f d = refl
+target_with (suc (suc n)) f d = refl
+
+-- a step that leaves it
+abbrev IsNoAim : Step → Type 0
+IsNoAim (OnSide i t) = Unit {0}
+IsNoAim Save = Unit {0}
+IsNoAim (Run (aim_at i)) = ⊥
+IsNoAim (Run (write_setting name val)) = Unit {0}
+IsNoAim (Run (delete_setting name)) = Unit {0}
+IsNoAim (Run load_settings) = Unit {0}
+IsNoAim (Run (begin_file name announced part)) = Unit {0}
+IsNoAim (Run (append_file name part)) = Unit {0}
+
+target_step : (t : Step) (d : AbstractDevice) → IsNoAim t → (apply t d).target ≡ d.target
+target_step (OnSide i t) d h = target_with i (side_apply t) d
+target_step Save d h = refl
+target_step (Run (aim_at i)) d h = absurd h
+target_step (Run (write_setting name val)) d h = refl
+target_step (Run (delete_setting name)) d h = refl
+target_step (Run load_settings) d h = refl
+target_step (Run (begin_file name announced part)) d h = refl
+target_step (Run (append_file name part)) d h = refl
+
+target_front : (front rest : List Step) (d : AbstractDevice) → EachStep IsNoAim (front ++ rest) → (applied front d).target ≡ d.target
+target_front [] rest d h = refl
+target_front (t ∷ front) rest d h = target_front front rest (apply t d) h.1 ∙ target_step t d h.0
+
+pub target_part : (d e : AbstractDevice) (steps : List Step) → EachStep IsNoAim steps → Part d steps e → e.target ≡ d.target
+target_part d e steps h p = ap (λ (x : AbstractDevice). x.target) p.reached ∙ target_front p.front p.rest d (subst (EachStep IsNoAim) p.split h)
+
+no_aim_on : (i : ℕ) (steps : List SideStep) → EachStep IsNoAim (on_side i steps)
+no_aim_on i [] = tt
+no_aim_on i (t ∷ steps) = (tt, no_aim_on i steps)
+
+no_aim_at : (i : ℕ) (o : Option Side) → EachStep IsNoAim (if_some o (λ s. on_side i (side_settle_steps s)))
+no_aim_at i None = tt
+no_aim_at i (Some s) = no_aim_on i (side_settle_steps s)
+
+no_aim_settling : (d : AbstractDevice) (steps : List Step) → SettlesAtMost d steps → EachStep IsNoAim steps
+no_aim_settling d steps (inl e) = subst (EachStep IsNoAim) (sym e) tt
+no_aim_settling d steps (inr (inl e)) = subst (EachStep IsNoAim) (sym e) (each_more IsNoAim (settle_steps_of 0 d) (settle_steps_of 1 d) (no_aim_at 0 (side_at 0 d)) (no_aim_at 1 (side_at 1 d)))
+no_aim_settling d steps (inr (inr e)) = subst (EachStep IsNoAim) (sym e.1) (no_aim_at e.0 (side_at e.0 d))
+
+pub refused_target : (sizes : Sizes) (d e : AbstractDevice) (m : Meant) → is_error (does sizes d m).reply ≡ true → Part d (does sizes d m).steps e → e.target ≡ d.target
+refused_target sizes d e m refuses p = target_part d e (does sizes d m).steps (no_aim_settling d (does sizes d m).steps (does_refuse sizes d m refuses)) p
+
+no_aims_due : (sizes : Sizes) (target : ℕ) (m : Meant) → (IsStart m → ⊥) → (steps : List Step) (d : AbstractDevice) → AllDue sizes target m d steps → EachStep IsNoAim steps
+no_aims_due sizes target m other [] d h = tt
+no_aims_due sizes target m other (OnSide i t ∷ steps) d h = (tt, no_aims_due sizes target m other steps (apply (OnSide i t) d) h.1)
+no_aims_due sizes target m other (Save ∷ steps) d h = (tt, no_aims_due sizes target m other steps (apply Save d) h.1)
+no_aims_due sizes target m other (Run (aim_at i) ∷ steps) d h = absurd (other h.0.0)
+no_aims_due sizes target m other (Run (write_setting name val) ∷ steps) d h = (tt, no_aims_due sizes target m other steps (apply (Run (write_setting name val)) d) h.1)
+no_aims_due sizes target m other (Run (delete_setting name) ∷ steps) d h = (tt, no_aims_due sizes target m other steps (apply (Run (delete_setting name)) d) h.1)
+no_aims_due sizes target m other (Run load_settings ∷ steps) d h = (tt, no_aims_due sizes target m other steps (apply (Run load_settings) d) h.1)
+no_aims_due sizes target m other (Run (begin_file name announced part) ∷ steps) d h = (tt, no_aims_due sizes target m other steps (apply (Run (begin_file name announced part)) d) h.1)
+no_aims_due sizes target m other (Run (append_file name part) ∷ steps) d h = (tt, no_aims_due sizes target m other steps (apply (Run (append_file name part)) d) h.1)
+
+pub other_target : (sizes : Sizes) (d e : AbstractDevice) (m : Meant) → (IsStart m → ⊥) → Part d (does sizes d m).steps e → e.target ≡ d.target
+other_target sizes d e m other p = target_part d e (does sizes d m).steps (no_aims_due sizes d.target m other (does sizes d m).steps d (does_due sizes d m)) p
+
+-- a start that is answered with an offset
+aimed : (i : ℕ) (d : AbstractDevice) (a : List SideStep) (b : List SideStep) → (applied (on_side i a ++ (Run (aim_at i) ∷ on_side i b)) d).target ≡ i
+aimed i d a b =
+    ap (λ (x : AbstractDevice). x.target) (applied_more (on_side i a) (Run (aim_at i) ∷ on_side i b) d)
+    ∙ target_front (on_side i b) [] (apply (Run (aim_at i)) (applied (on_side i a) d)) (each_more IsNoAim (on_side i b) [] (no_aim_on i b) tt)
+
+pub start_target : (sizes : Sizes) (d : AbstractDevice) (image len : Option ℕ) (sha : Option (List ℕ)) (part : List ℕ) → is_offset (uploads sizes d image len 0 sha part).reply ≡ true
+    → (applied (uploads sizes d image len 0 sha part).steps d).target ≡ side_of d.target image 0 sha
+start_target sizes d image len sha part =
+    upload_cases (λ (r : Response). is_offset r.reply ≡ true → (applied r.steps d).target ≡ i) sizes d image len 0 sha part
+    (λ n e. nothing e)
+    (λ s n found l z long e.
+    subst (λ steps. (applied (on_side i (side_settle_steps s) ++ (steps ++ on_side i (starting sizes s n sha part).steps)) d).target ≡ i)
+    (sym (ap (λ b. if b then Run (aim_at i) ∷ [] else []) e)) (aimed i d (side_settle_steps s) (starting sizes s n sha part).steps))
+    (λ s found z. absurd (z refl))
+  where
+    i : ℕ
+    i = side_of d.target image 0 sha
+
+    nothing : false ≡ true → {A : Type 0} → A
+    nothing h = cc

@@ -1,31 +1,18 @@
 -- Only a save changes what is saved.
-use Rattle.std.proofs.Common.{◌≡◌, ◌⊎◌, inl, inr, List, [], ◌∷◌, ◌++◌, refl, ap, subst, ◌∙◌}
+use Rattle.std.proofs.Common.{◌≡◌, ◌⊎◌, inl, inr, ℕ, zero, suc, List, [], ◌∷◌, ◌++◌, refl, sym, ap, subst, ◌∙◌}
 use Rattle.smp_model.specs.declared.device.AbstractDevice.{AbstractDevice}
+use Rattle.smp_model.specs.declared.device.Side.{Side}
 use Rattle.smp_model.specs.declared.device.Sizes.{Sizes}
 use Rattle.smp_model.specs.Does.{does}
-use Rattle.smp_model.specs.ImageGroup.{lists_after}
-use Rattle.smp_model.specs.Laws.{EachStep}
+use Rattle.smp_model.specs.Due.{IsStepDue, IsChangeDue}
+use Rattle.smp_model.specs.Laws.{Along, EachStep, IsNoSave}
 use Rattle.smp_model.specs.Meant as meant
 use Rattle.smp_model.specs.Meant.{Meant}
-use Rattle.smp_model.specs.Response.{Response}
-use Rattle.smp_model.specs.Steps.{Change, write_setting, delete_setting, load_settings, begin_file, append_file, Step, Choose, Append, Drop, MarkPending, Confirm, Save, Run, Part, apply, applied, changed}
-use Rattle.smp_model.proofs.ImageSteps.{OfMarks, each_settling, each_set}
-use Rattle.smp_model.proofs.Marks.{uploads_of_upload, erases_of_upload}
-use Rattle.smp_model.proofs.Pending.{OfUpload}
-use Rattle.smp_model.proofs.Volatile.{IsVolatile, reads_setting_volatile, writes_setting_volatile, deletes_setting_volatile, reads_file_volatile, writes_file_volatile, tells_length_volatile, hashes_file_volatile}
-
--- any step but a save
-abbrev pub IsNoSave : Step → Type 0
-IsNoSave (Choose a) = Unit {0}
-IsNoSave (Append x) = Unit {0}
-IsNoSave Drop = Unit {0}
-IsNoSave (MarkPending m) = Unit {0}
-IsNoSave Confirm = Unit {0}
-IsNoSave Save = ⊥
-IsNoSave (Run change) = Unit {0}
-
-abbrev pub NoSaves : Response → Type 0
-NoSaves r = EachStep IsNoSave r.steps
+use Rattle.smp_model.specs.Sides.{side_apply}
+use Rattle.smp_model.specs.Steps.{Change, write_setting, delete_setting, load_settings, begin_file, append_file, aim_at, Step, OnSide, Save, Run, Part, with_side, apply, applied, changed}
+use Rattle.smp_model.proofs.OnSides.{along_front, kept_along}
+use Rattle.smp_model.proofs.DueSteps.{AllDue, does_due}
+use Rattle.smp_model.proofs.RequestKinds.{IsRunOf, by_kind}
 
 changed_saved : (c : Change) (d : AbstractDevice) → (changed c d).saved ≡ d.saved
 changed_saved (write_setting name val) d = refl
@@ -33,57 +20,34 @@ changed_saved (delete_setting name) d = refl
 changed_saved load_settings d = refl
 changed_saved (begin_file name announced part) d = refl
 changed_saved (append_file name part) d = refl
+changed_saved (aim_at image) d = refl
 
-saved_after : (steps rest : List Step) (d : AbstractDevice) → EachStep IsNoSave (steps ++ rest) → (applied steps d).saved ≡ d.saved
-saved_after [] rest d h = refl
-saved_after (Choose a ∷ steps) rest d h = saved_after steps rest (apply (Choose a) d) h.1
-saved_after (Append x ∷ steps) rest d h = saved_after steps rest (apply (Append x) d) h.1
-saved_after (Drop ∷ steps) rest d h = saved_after steps rest (apply Drop d) h.1
-saved_after (MarkPending m ∷ steps) rest d h = saved_after steps rest (apply (MarkPending m) d) h.1
-saved_after (Confirm ∷ steps) rest d h = saved_after steps rest (apply Confirm d) h.1
-saved_after (Save ∷ steps) rest d h = absurd h.0
-saved_after (Run c ∷ steps) rest d h = saved_after steps rest (apply (Run c) d) h.1 ∙ changed_saved c d
+pub side_saved : (i : ℕ) (f : Side → Side) (d : AbstractDevice) → (with_side i f d).saved ≡ d.saved
+side_saved zero f d = refl
+side_saved (suc zero) f d = refl
+side_saved (suc (suc n)) f d = refl
 
-no_saves_of_upload : (steps : List Step) → OfUpload steps → EachStep IsNoSave steps
-no_saves_of_upload [] h = tt
-no_saves_of_upload (Choose a ∷ steps) h = (tt, no_saves_of_upload steps h)
-no_saves_of_upload (Append x ∷ steps) h = (tt, no_saves_of_upload steps h)
-no_saves_of_upload (Drop ∷ steps) h = (tt, no_saves_of_upload steps h)
-no_saves_of_upload (MarkPending m ∷ steps) h = absurd h
-no_saves_of_upload (Confirm ∷ steps) h = absurd h
-no_saves_of_upload (Save ∷ steps) h = absurd h
-no_saves_of_upload (Run c ∷ steps) h = absurd h
-
-no_saves_of_volatile : (steps : List Step) → EachStep IsVolatile steps → EachStep IsNoSave steps
-no_saves_of_volatile [] h = tt
-no_saves_of_volatile (Choose a ∷ steps) h = absurd h.0
-no_saves_of_volatile (Append x ∷ steps) h = absurd h.0
-no_saves_of_volatile (Drop ∷ steps) h = absurd h.0
-no_saves_of_volatile (MarkPending m ∷ steps) h = absurd h.0
-no_saves_of_volatile (Confirm ∷ steps) h = absurd h.0
-no_saves_of_volatile (Save ∷ steps) h = absurd h.0
-no_saves_of_volatile (Run c ∷ steps) h = (tt, no_saves_of_volatile steps h.1)
-
-marks_no_saves : OfMarks IsNoSave
-marks_no_saves = record { mark = λ m. tt; confirm = tt; drop = tt }
+-- a step of another request than a save
+saved_step : (sizes : Sizes) (target : ℕ) (m : Meant) (d : AbstractDevice) → (m ≡ meant.save → ⊥) → (e : AbstractDevice) (t : Step) → IsStepDue sizes target m e t → e.saved ≡ d.saved → (apply t e).saved ≡ d.saved
+saved_step sizes target m d other e (OnSide i t) h k = side_saved i (side_apply t) e ∙ k
+saved_step sizes target m d other e Save h k = absurd (other h)
+saved_step sizes target m d other e (Run c) h k = changed_saved c e ∙ k
 
 -- what is saved where a request was broken off
 abbrev pub SavedBy : Meant → AbstractDevice → AbstractDevice → Type 0
 SavedBy m d e = (e.saved ≡ d.saved) ⊎ ((m ≡ meant.save) × (e.saved ≡ d.running))
 
-kept_by : (m : Meant) (d e : AbstractDevice) (steps : List Step) → EachStep IsNoSave steps → Part d steps e → SavedBy m d e
-kept_by m d e steps h p =
-    inl (ap (λ (x : AbstractDevice). x.saved) p.reached ∙ saved_after p.front p.rest d (subst (EachStep IsNoSave) p.split h))
+kept_by : (sizes : Sizes) (d e : AbstractDevice) (m : Meant) → (m ≡ meant.save → ⊥) → Part d (does sizes d m).steps e → SavedBy m d e
+kept_by sizes d e m other p =
+    inl (ap (λ (x : AbstractDevice). x.saved) p.reached
+    ∙ kept_along (IsStepDue sizes d.target m) (λ x. x.saved ≡ d.saved) p.front d (saved_step sizes d.target m d other)
+    (along_front (IsStepDue sizes d.target m) p.front p.rest d (subst (AllDue sizes d.target m d) p.split (does_due sizes d m))) refl)
 
 front_of_save : (front rest : List Step) (d : AbstractDevice) → Save ∷ [] ≡ front ++ rest → ((applied front d).saved ≡ d.saved) ⊎ ((applied front d).saved ≡ d.running)
 front_of_save [] rest d e = inl refl
 front_of_save (Save ∷ []) rest d e = inr refl
 front_of_save (Save ∷ s ∷ front) rest d e = cc
-front_of_save (Choose a ∷ front) rest d e = cc
-front_of_save (Append x ∷ front) rest d e = cc
-front_of_save (Drop ∷ front) rest d e = cc
-front_of_save (MarkPending m ∷ front) rest d e = cc
-front_of_save (Confirm ∷ front) rest d e = cc
+front_of_save (OnSide i t ∷ front) rest d e = cc
 front_of_save (Run c ∷ front) rest d e = cc
 
 saved_by_save : (d e : AbstractDevice) → Part d (Save ∷ []) e → SavedBy meant.save d e
@@ -92,25 +56,29 @@ saved_by_save d e p = elim (front_of_save p.front p.rest d p.split) [
   | inr k ↦ inr (refl, ap (λ (x : AbstractDevice). x.saved) p.reached ∙ k)
 ]
 
+-- changes of what a start forgets are no saves
+runs_save_nothing : (P : Change → Type 0) (steps : List Step) → EachStep (IsRunOf P) steps → EachStep IsNoSave steps
+runs_save_nothing P [] h = tt
+runs_save_nothing P (OnSide i t ∷ steps) h = absurd h.0
+runs_save_nothing P (Save ∷ steps) h = absurd h.0
+runs_save_nothing P (Run c ∷ steps) h = (tt, runs_save_nothing P steps h.1)
+
+front_saves_nothing : (front rest : List Step) (d : AbstractDevice) → EachStep IsNoSave (front ++ rest) → (applied front d).saved ≡ d.saved
+front_saves_nothing [] rest d h = refl
+front_saves_nothing (OnSide i t ∷ front) rest d h = front_saves_nothing front rest (apply (OnSide i t) d) h.1 ∙ side_saved i (side_apply t) d
+front_saves_nothing (Save ∷ front) rest d h = absurd h.0
+front_saves_nothing (Run c ∷ front) rest d h = front_saves_nothing front rest (apply (Run c) d) h.1 ∙ changed_saved c d
+
+kept_without : (d e : AbstractDevice) (steps : List Step) → EachStep IsNoSave steps → Part d steps e → e.saved ≡ d.saved
+kept_without d e steps h p = ap (λ (x : AbstractDevice). x.saved) p.reached ∙ front_saves_nothing p.front p.rest d (subst (EachStep IsNoSave) p.split h)
+
 pub saved_by : (sizes : Sizes) (d e : AbstractDevice) (m : Meant) → Part d (does sizes d m).steps e → SavedBy m d e
-saved_by sizes d e meant.save p = saved_by_save d e p
-saved_by sizes d e (meant.echo text) p = kept_by _ d e _ tt p
-saved_by sizes d e meant.reset p = kept_by _ d e _ tt p
-saved_by sizes d e meant.parameters p = kept_by _ d e _ tt p
-saved_by sizes d e meant.image_list p = kept_by _ d e _ (each_settling IsNoSave d (lists_after []) tt (λ k. tt)) p
-saved_by sizes d e (meant.image_set hash confirm) p = kept_by _ d e _ (each_set IsNoSave marks_no_saves d hash confirm) p
-saved_by sizes d e (meant.upload image len off sha part) p = kept_by _ d e _ (no_saves_of_upload _ (uploads_of_upload sizes d image len off sha part)) p
-saved_by sizes d e (meant.erase slot) p = kept_by _ d e _ (no_saves_of_upload _ (erases_of_upload d slot)) p
-saved_by sizes d e (meant.stat_group name) p = kept_by _ d e _ tt p
-saved_by sizes d e meant.stat_list p = kept_by _ d e _ tt p
-saved_by sizes d e (meant.setting_read name size) p = kept_by _ d e _ (no_saves_of_volatile _ (reads_setting_volatile d.running name size)) p
-saved_by sizes d e (meant.setting_write name val) p = kept_by _ d e _ (no_saves_of_volatile _ (writes_setting_volatile d.running name val)) p
-saved_by sizes d e (meant.setting_delete name) p = kept_by _ d e _ (no_saves_of_volatile _ (deletes_setting_volatile d.running name)) p
-saved_by sizes d e meant.commit p = kept_by _ d e _ tt p
-saved_by sizes d e meant.load p = kept_by _ d e _ (tt, tt) p
-saved_by sizes d e (meant.file_read off name) p = kept_by _ d e _ (no_saves_of_volatile _ (reads_file_volatile d.files off name)) p
-saved_by sizes d e (meant.file_write off part len name) p = kept_by _ d e _ (no_saves_of_volatile _ (writes_file_volatile d.files off part len name)) p
-saved_by sizes d e (meant.file_status name) p = kept_by _ d e _ (no_saves_of_volatile _ (tells_length_volatile d.files name)) p
-saved_by sizes d e (meant.file_hash name kind off len) p = kept_by _ d e _ (no_saves_of_volatile _ (hashes_file_volatile d.files name kind off len)) p
-saved_by sizes d e meant.file_types p = kept_by _ d e _ tt p
-saved_by sizes d e meant.file_close p = kept_by _ d e _ tt p
+saved_by sizes d e = by_kind sizes d (λ m. Part d (does sizes d m).steps e → SavedBy m d e) (record {
+  still = λ m none p. inl (kept_without d e (does sizes d m).steps (subst (EachStep IsNoSave) (sym none) tt) p);
+  runs = λ m r p. inl (kept_without d e (does sizes d m).steps (runs_save_nothing (λ c. (f : AbstractDevice) → IsChangeDue d.target m f c) (does sizes d m).steps r.changes) p);
+  save = saved_by_save d e;
+  image_list = kept_by sizes d e meant.image_list (λ k. cc);
+  image_set = λ hash confirm. kept_by sizes d e (meant.image_set hash confirm) (λ k. cc);
+  upload = λ image len off sha part. kept_by sizes d e (meant.upload image len off sha part) (λ k. cc);
+  erase = λ slot. kept_by sizes d e (meant.erase slot) (λ k. cc);
+})

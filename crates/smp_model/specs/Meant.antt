@@ -2,7 +2,7 @@
 use Rattle.std.specs.Prelude.{ℕ, List, [], ◌∷◌, Bool, Option, Some, None, option_map}
 use Rattle.smp_model.specs.declared.request.Request.{Request}
 use Rattle.smp_model.specs.declared.request.Request.TheVariants as requests
-use Rattle.smp_model.specs.Table.{Field, number, words, bytes, truth, Name, is_echo, is_reset, is_parameters, is_image_list, is_image_set, is_upload, is_erase, is_stat_group, is_stat_list, is_setting_read, is_setting_write, is_setting_delete, is_commit, is_load, is_save, is_file_read, is_file_write, is_file_status, is_file_hash, is_file_types, is_file_close}
+use Rattle.smp_model.specs.Table.{Field, number, words, bytes, truth, Name, echo_row, reset_row, parameters_row, image_list_row, image_set_row, upload_row, erase_row, stat_group_row, stat_list_row, setting_read_row, setting_write_row, setting_delete_row, commit_row, load_row, save_row, file_read_row, file_write_row, file_status_row, file_hash_row, file_types_row, file_close_row}
 
 pub data Meant : Type 0 where
   echo : (text : List ℕ) → Meant
@@ -10,7 +10,7 @@ pub data Meant : Type 0 where
   parameters : Meant
   image_list : Meant
   image_set : (hash : Option (List ℕ)) (confirm : Bool) → Meant
-  upload : (image : ℕ) (len : Option ℕ) (off : ℕ) (sha : Option (List ℕ)) (part : List ℕ) → Meant
+  upload : (image : Option ℕ) (len : Option ℕ) (off : ℕ) (sha : Option (List ℕ)) (part : List ℕ) → Meant
   erase : (slot : ℕ) → Meant
   stat_group : (name : List ℕ) → Meant
   stat_list : Meant
@@ -52,27 +52,27 @@ meant_of requests.FileClose = file_close
 
 -- the row of a request
 abbrev pub name_of : Meant → Name
-name_of (echo t) = is_echo
-name_of reset = is_reset
-name_of parameters = is_parameters
-name_of image_list = is_image_list
-name_of (image_set hash confirm) = is_image_set
-name_of (upload image len off sha part) = is_upload
-name_of (erase slot) = is_erase
-name_of (stat_group name) = is_stat_group
-name_of stat_list = is_stat_list
-name_of (setting_read name size) = is_setting_read
-name_of (setting_write name val) = is_setting_write
-name_of (setting_delete name) = is_setting_delete
-name_of commit = is_commit
-name_of load = is_load
-name_of save = is_save
-name_of (file_read off name) = is_file_read
-name_of (file_write off part len name) = is_file_write
-name_of (file_status name) = is_file_status
-name_of (file_hash name kind off len) = is_file_hash
-name_of file_types = is_file_types
-name_of file_close = is_file_close
+name_of (echo t) = echo_row
+name_of reset = reset_row
+name_of parameters = parameters_row
+name_of image_list = image_list_row
+name_of (image_set hash confirm) = image_set_row
+name_of (upload image len off sha part) = upload_row
+name_of (erase slot) = erase_row
+name_of (stat_group name) = stat_group_row
+name_of stat_list = stat_list_row
+name_of (setting_read name size) = setting_read_row
+name_of (setting_write name val) = setting_write_row
+name_of (setting_delete name) = setting_delete_row
+name_of commit = commit_row
+name_of load = load_row
+name_of save = save_row
+name_of (file_read off name) = file_read_row
+name_of (file_write off part len name) = file_write_row
+name_of (file_status name) = file_status_row
+name_of (file_hash name kind off len) = file_hash_row
+name_of file_types = file_types_row
+name_of file_close = file_close_row
 
 -- its fields, in the order of the row's keys
 abbrev pub fields_of : Meant → List (Option Field)
@@ -81,7 +81,7 @@ fields_of reset = []
 fields_of parameters = []
 fields_of image_list = []
 fields_of (image_set hash confirm) = option_map bytes hash ∷ Some (truth confirm) ∷ []
-fields_of (upload image len off sha part) = Some (number image) ∷ option_map number len ∷ Some (number off) ∷ option_map bytes sha ∷ Some (bytes part) ∷ None ∷ []
+fields_of (upload image len off sha part) = option_map number image ∷ option_map number len ∷ Some (number off) ∷ option_map bytes sha ∷ Some (bytes part) ∷ None ∷ []
 fields_of (erase slot) = Some (number slot) ∷ []
 fields_of (stat_group name) = Some (words name) ∷ []
 fields_of stat_list = []
@@ -112,25 +112,25 @@ bytes_in o = None
 
 -- the request of a row with these fields; fields of other kinds are none
 abbrev pub made : Name → List (Option Field) → Option Meant
-made is_echo (Some (words t) ∷ []) = Some (echo t)
-made is_reset [] = Some reset
-made is_parameters [] = Some parameters
-made is_image_list [] = Some image_list
-made is_image_set (hash ∷ Some (truth confirm) ∷ []) = Some (image_set (bytes_in hash) confirm)
-made is_upload (Some (number image) ∷ len ∷ Some (number off) ∷ sha ∷ Some (bytes part) ∷ None ∷ []) = Some (upload image (number_in len) off (bytes_in sha) part)
-made is_erase (Some (number slot) ∷ []) = Some (erase slot)
-made is_stat_group (Some (words name) ∷ []) = Some (stat_group name)
-made is_stat_list [] = Some stat_list
-made is_setting_read (Some (words name) ∷ size ∷ []) = Some (setting_read name (number_in size))
-made is_setting_write (Some (words name) ∷ Some (bytes val) ∷ []) = Some (setting_write name val)
-made is_setting_delete (Some (words name) ∷ []) = Some (setting_delete name)
-made is_commit [] = Some commit
-made is_load [] = Some load
-made is_save [] = Some save
-made is_file_read (Some (number off) ∷ Some (words name) ∷ []) = Some (file_read off name)
-made is_file_write (Some (number off) ∷ Some (bytes part) ∷ len ∷ Some (words name) ∷ []) = Some (file_write off part (number_in len) name)
-made is_file_status (Some (words name) ∷ []) = Some (file_status name)
-made is_file_hash (Some (words name) ∷ kind ∷ Some (number off) ∷ len ∷ []) = Some (file_hash name (words_in kind) off (number_in len))
-made is_file_types [] = Some file_types
-made is_file_close [] = Some file_close
+made echo_row (Some (words t) ∷ []) = Some (echo t)
+made reset_row [] = Some reset
+made parameters_row [] = Some parameters
+made image_list_row [] = Some image_list
+made image_set_row (hash ∷ Some (truth confirm) ∷ []) = Some (image_set (bytes_in hash) confirm)
+made upload_row (image ∷ len ∷ Some (number off) ∷ sha ∷ Some (bytes part) ∷ None ∷ []) = Some (upload (number_in image) (number_in len) off (bytes_in sha) part)
+made erase_row (Some (number slot) ∷ []) = Some (erase slot)
+made stat_group_row (Some (words name) ∷ []) = Some (stat_group name)
+made stat_list_row [] = Some stat_list
+made setting_read_row (Some (words name) ∷ size ∷ []) = Some (setting_read name (number_in size))
+made setting_write_row (Some (words name) ∷ Some (bytes val) ∷ []) = Some (setting_write name val)
+made setting_delete_row (Some (words name) ∷ []) = Some (setting_delete name)
+made commit_row [] = Some commit
+made load_row [] = Some load
+made save_row [] = Some save
+made file_read_row (Some (number off) ∷ Some (words name) ∷ []) = Some (file_read off name)
+made file_write_row (Some (number off) ∷ Some (bytes part) ∷ len ∷ Some (words name) ∷ []) = Some (file_write off part (number_in len) name)
+made file_status_row (Some (words name) ∷ []) = Some (file_status name)
+made file_hash_row (Some (words name) ∷ kind ∷ Some (number off) ∷ len ∷ []) = Some (file_hash name (words_in kind) off (number_in len))
+made file_types_row [] = Some file_types
+made file_close_row [] = Some file_close
 made n fs = None

@@ -6,11 +6,13 @@ use Rattle.smp_header.specs.Message.{Message}
 use Rattle.smp_cbor.specs.Values.{Value, unsigned, octets, text, boolean, list, map, values, pairs}
 use Rattle.smp_cbor.specs.Shortest.{shortest}
 use Rattle.smp_model.specs.declared.reply.Version.{Version}
+use Rattle.smp_model.specs.declared.reply.SidePair.{SidePair}
 use Rattle.smp_model.specs.declared.reply.SlotEntry.{SlotEntry}
 use Rattle.smp_model.specs.declared.reply.Reply.{Reply}
 use Rattle.smp_model.specs.declared.reply.Reply.TheVariants as replies
 use Rattle.smp_model.specs.Errors.{version_1_of}
 use Rattle.smp_model.specs.Packets.{packet_bytes}
+use Rattle.smp_model.specs.declared.error.TheConstants.{UNKNOWN}
 
 pub data Said : Type 0 where
   smp_error : (number : ℕ) → Said
@@ -20,17 +22,13 @@ pub data Said : Type 0 where
   parameters : Said
   stat_group : (handled dropped errors : ℕ) → Said
   stat_list : Said
-  images : List SlotEntry → Said
+  images : (zero : SidePair) (one : Option SidePair) → Said
   offset : (off : ℕ) (matched : Option Bool) → Said
   setting : (val : List ℕ) → Said
   file_part : (off : ℕ) (len : Option ℕ) (part : List ℕ) → Said
   file_length : (len : ℕ) → Said
   file_hash : (off len : ℕ) (output : List ℕ) → Said
   file_types : Said
-
-abbrev pub and_second : SlotEntry → Option SlotEntry → List SlotEntry
-and_second first None = first ∷ []
-and_second first (Some second) = first ∷ second ∷ []
 
 abbrev pub said_of : Reply → Said
 said_of (replies.SmpError n) = smp_error n
@@ -40,7 +38,7 @@ said_of (replies.Echo t) = echo t.now
 said_of replies.Parameters = parameters
 said_of (replies.StatGroup handled dropped errors) = stat_group handled dropped errors
 said_of replies.StatList = stat_list
-said_of (replies.Images first second) = images (and_second first second)
+said_of (replies.Images pair other) = images pair other
 said_of (replies.Offset off matched) = offset off matched
 said_of (replies.Setting val) = setting val.now
 said_of (replies.FilePart off len part) = file_part off len part.now
@@ -70,9 +68,10 @@ abbrev pub version_text : Version → List ℕ
 version_text v = decimal v.major ++ codes "." ++ decimal v.minor ++ codes "." ++ decimal v.revision
     ++ (if v.build == 0 then [] else codes "." ++ decimal v.build)
 
-abbrev pub entry_value : SlotEntry → Value
-entry_value e = map (pairs (
-    (codes "slot", unsigned e.slot)
+-- the entry of a slot, behind the number of its image where that is told
+abbrev pub entry_value : Option ℕ × SlotEntry → Value
+entry_value (image, e) = map (pairs (if_some image (λ n. (codes "image", unsigned n) ∷ [])
+    ++ (codes "slot", unsigned e.slot)
     ∷ (codes "version", text (version_text e.version))
     ∷ (codes "hash", octets e.hash)
     ∷ (codes "bootable", boolean e.bootable)
@@ -82,10 +81,18 @@ entry_value e = map (pairs (
     ∷ (codes "permanent", boolean e.permanent)
     ∷ []))
 
+abbrev pub slots_of : Option ℕ → SidePair → List (Option ℕ × SlotEntry)
+slots_of image pair = (image, pair.first) ∷ if_some pair.second (λ e. (image, e) ∷ [])
+
+-- the slots of all images; the number of its image is told of each exactly where there are two images
+abbrev pub listed : SidePair → Option SidePair → List (Option ℕ × SlotEntry)
+listed pair None = slots_of None pair
+listed pair (Some other) = slots_of (Some 0) pair ++ slots_of (Some 1) other
+
 -- in version 1 (version bits 0) an error of a group has one number alone
 abbrev pub group_error_entries : ℕ → ℕ → ℕ → Entries
 group_error_entries version group n =
-    if version == 0 then (codes "rc", unsigned (unwrap_or (version_1_of group n) 1)) ∷ []
+    if version == 0 then (codes "rc", unsigned (unwrap_or (version_1_of group n) UNKNOWN)) ∷ []
     else (codes "err", map (pairs ((codes "group", unsigned group) ∷ (codes "rc", unsigned n) ∷ []))) ∷ []
 
 -- the pairs of a reply, by the version bits that it is written with
@@ -107,7 +114,7 @@ entries_of version (stat_group handled dropped errors) =
     )
     ∷ []
 entries_of version stat_list = (codes "stat_list", list (values (text (codes "smp") ∷ []))) ∷ []
-entries_of version (images es) = (codes "images", list (values (each entry_value es))) ∷ []
+entries_of version (images pair other) = (codes "images", list (values (each entry_value (listed pair other)))) ∷ []
 entries_of version (offset off matched) =
     (codes "off", unsigned off) ∷ if_some matched (λ m. (codes "match", boolean m) ∷ [])
 entries_of version (setting val) = (codes "val", octets val) ∷ []

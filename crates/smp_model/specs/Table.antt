@@ -66,104 +66,104 @@ row_of group command operations keys = record { group = group; command = command
 
 -- the requests by name
 pub data Name : Type 0 where
-  is_echo : Name
-  is_reset : Name
-  is_parameters : Name
-  is_image_list : Name
-  is_image_set : Name
-  is_upload : Name
-  is_erase : Name
-  is_stat_group : Name
-  is_stat_list : Name
-  is_setting_read : Name
-  is_setting_write : Name
-  is_setting_delete : Name
-  is_commit : Name
-  is_load : Name
-  is_save : Name
-  is_file_read : Name
-  is_file_write : Name
-  is_file_status : Name
-  is_file_hash : Name
-  is_file_types : Name
-  is_file_close : Name
+  echo_row : Name
+  reset_row : Name
+  parameters_row : Name
+  image_list_row : Name
+  image_set_row : Name
+  upload_row : Name
+  erase_row : Name
+  stat_group_row : Name
+  stat_list_row : Name
+  setting_read_row : Name
+  setting_write_row : Name
+  setting_delete_row : Name
+  commit_row : Name
+  load_row : Name
+  save_row : Name
+  file_read_row : Name
+  file_write_row : Name
+  file_status_row : Name
+  file_hash_row : Name
+  file_types_row : Name
+  file_close_row : Name
 
 abbrev pub table : Name → Row
 -- group 0, OS
-table is_echo = row_of 0 0 either (
+table echo_row = row_of 0 0 either (
     key (codes "d") a_text required
     ∷ [])
-table is_reset = row_of 0 5 a_write []
-table is_parameters = row_of 0 6 a_read []
+table reset_row = row_of 0 5 a_write []
+table parameters_row = row_of 0 6 a_read []
 -- group 1, image
-table is_image_list = row_of 1 0 a_read []
-table is_image_set = row_of 1 0 a_write (
+table image_list_row = row_of 1 0 a_read []
+table image_set_row = row_of 1 0 a_write (
     key (codes "hash") some_bytes optional
     ∷ key (codes "confirm") a_truth (counts_as (truth false))
     ∷ [])
-table is_upload = row_of 1 1 a_write (
-    key (codes "image") a_number (counts_as (number 0))
+table upload_row = row_of 1 1 a_write (
+    key (codes "image") a_number optional
     ∷ key (codes "len") a_number optional
     ∷ key (codes "off") a_number required
     ∷ key (codes "sha") some_bytes optional
     ∷ key (codes "data") some_bytes required
     ∷ key (codes "upgrade") a_truth unused
     ∷ [])
-table is_erase = row_of 1 5 a_write (
+table erase_row = row_of 1 5 a_write (
     key (codes "slot") a_number (always (number 1))
     ∷ [])
 -- group 2, statistics
-table is_stat_group = row_of 2 0 a_read (
+table stat_group_row = row_of 2 0 a_read (
     key (codes "name") a_text required
     ∷ [])
-table is_stat_list = row_of 2 1 a_read []
+table stat_list_row = row_of 2 1 a_read []
 -- group 3, settings
-table is_setting_read = row_of 3 0 a_read (
+table setting_read_row = row_of 3 0 a_read (
     key (codes "name") a_text required
     ∷ key (codes "max_size") a_number optional
     ∷ [])
-table is_setting_write = row_of 3 0 a_write (
+table setting_write_row = row_of 3 0 a_write (
     key (codes "name") a_text required
     ∷ key (codes "val") some_bytes required
     ∷ [])
-table is_setting_delete = row_of 3 1 a_write (
+table setting_delete_row = row_of 3 1 a_write (
     key (codes "name") a_text required
     ∷ [])
-table is_commit = row_of 3 2 a_write []
-table is_load = row_of 3 3 a_read []
-table is_save = row_of 3 3 a_write []
+table commit_row = row_of 3 2 a_write []
+table load_row = row_of 3 3 a_read []
+table save_row = row_of 3 3 a_write []
 -- group 8, files
-table is_file_read = row_of 8 0 a_read (
+table file_read_row = row_of 8 0 a_read (
     key (codes "off") a_number required
     ∷ key (codes "name") a_text required
     ∷ [])
-table is_file_write = row_of 8 0 a_write (
+table file_write_row = row_of 8 0 a_write (
     key (codes "off") a_number required
     ∷ key (codes "data") some_bytes required
     ∷ key (codes "len") a_number optional
     ∷ key (codes "name") a_text required
     ∷ [])
-table is_file_status = row_of 8 1 a_read (
+table file_status_row = row_of 8 1 a_read (
     key (codes "name") a_text required
     ∷ [])
-table is_file_hash = row_of 8 2 a_read (
+table file_hash_row = row_of 8 2 a_read (
     key (codes "name") a_text required
     ∷ key (codes "type") a_text optional
     ∷ key (codes "off") a_number (always (number 0))
     ∷ key (codes "len") a_number optional
     ∷ [])
-table is_file_types = row_of 8 3 a_read []
-table is_file_close = row_of 8 4 a_write []
+table file_types_row = row_of 8 3 a_read []
+table file_close_row = row_of 8 4 a_write []
 
 -- every row
 abbrev pub names : List Name
-names = is_echo ∷ is_reset ∷ is_parameters ∷ is_image_list ∷ is_image_set ∷ is_upload ∷ is_erase ∷ is_stat_group
-    ∷ is_stat_list ∷ is_setting_read ∷ is_setting_write ∷ is_setting_delete ∷ is_commit ∷ is_load ∷ is_save
-    ∷ is_file_read ∷ is_file_write ∷ is_file_status ∷ is_file_hash ∷ is_file_types ∷ is_file_close ∷ []
+names = echo_row ∷ reset_row ∷ parameters_row ∷ image_list_row ∷ image_set_row ∷ upload_row ∷ erase_row ∷ stat_group_row
+    ∷ stat_list_row ∷ setting_read_row ∷ setting_write_row ∷ setting_delete_row ∷ commit_row ∷ load_row ∷ save_row
+    ∷ file_read_row ∷ file_write_row ∷ file_status_row ∷ file_hash_row ∷ file_types_row ∷ file_close_row ∷ []
 
 abbrev pub is_row : ℕ → ℕ → ℕ → Row → Bool
 is_row group command op r = ((group == r.group) && (command == r.command)) && has_operation r.operations op
 
 -- the request that a group, a command and an operation name; none where the table has no such row
-abbrev pub named : ℕ → ℕ → ℕ → Option Name
-named group command op = find (λ n. is_row group command op (table n)) names
+abbrev pub name_at : (group command op : ℕ) → Option Name
+name_at group command op = find (λ n. is_row group command op (table n)) names

@@ -13,18 +13,13 @@
 #![tactic(auto)]
 
 mod device;
+pub mod error;
 mod image;
 mod image_laws;
 mod laws;
+pub mod memory;
 mod packet;
-mod plain;
-mod plain_files;
-mod plain_image;
-mod plain_images;
-mod plain_laws;
-mod plain_settings;
-mod plain_steps;
-mod plain_uploads;
+pub mod pair;
 mod reply;
 mod request;
 mod setting;
@@ -37,20 +32,18 @@ pub use image_laws::{
     made_images_are_good,
 };
 pub use laws::{
-    a_pending_slot_is_good, a_pending_slot_stays, acknowledged_bytes_are_held,
-    answered_offsets_are_held, counters_are_answered, devices_stay_consistent,
-    good_uploads_have_images, marks_are_due, only_a_save_saves, refusals_change_nothing,
-    settling_is_done_once, stored_settings_are_read_back, the_next_part_is_kept,
+    a_foreign_part_stores_nothing, a_pending_slot_is_good, a_pending_slot_stays, a_start_forgets,
+    acknowledged_bytes_are_held, answered_offsets_are_held, complete_uploads_are_told,
+    counters_are_answered, devices_stay_consistent, drops_are_due, good_uploads_have_images,
+    marks_are_due, one_image_is_image_0, only_a_save_saves, packets_have_texts, parts_join,
+    refusals_change_nothing, requests_keep_to_their_image, requests_keep_to_their_part,
+    settled_devices_stay_settled, settling_is_done_once, steps_are_due, steps_need_the_flash,
+    steps_of_a_side_lift, stored_settings_are_read_back, the_first_part_is_kept,
+    the_first_slot_is_meant, the_next_part_is_kept, the_target_moves_at_starts,
+    unnamed_images_are_found,
 };
 pub use packet::set_length;
-pub use plain::{PlainChange, PlainResponse, PlainStep, does, is_sound};
-pub use plain_laws::devices_stay_sound;
-pub use plain_settings::{are_storable, stored_form};
-pub use plain_steps::{after, start};
-pub use reply::{Reply, SlotEntry, Version};
+pub use reply::{Reply, SidePair, SlotEntry, Version};
 pub use request::{Request, UploadPart};
 pub use setting::{Pairs, Setting};
 pub use upload::{Announcement, Ending, Mark};
-
-#[cfg(test)]
-mod tests;

@@ -1,16 +1,17 @@
 //! The list of images.
 
-ghost use Rattle.std.specs.Prelude.{◌≡◌, ◌+◌, ◌≤◌, ◌++◌, length};
+ghost use Rattle.std.specs.Prelude.{◌≡◌, ◌+◌, ◌≤◌, ◌++◌, ℕ, Option, None, Some, length, map as each};
 ghost use Rattle.arrayvec.specs.ArrayVec.{array_vec_len};
-ghost use Rattle.smp_cbor.specs.Shortest.{shortest};
-ghost use Rattle.smp_reply.specs.Parts.{named_bytes, flag_bytes, last_flag_bytes};
-ghost use Rattle.smp_model.specs.Said.{and_second, entry_value, images, reply_value, version_text};
+ghost use Rattle.smp_cbor.specs.Shortest.{shortest, shortest_values, values_count};
+ghost use Rattle.smp_cbor.specs.Values.{list, values};
+ghost use Rattle.smp_reply.specs.Parts.{image_bytes, named_bytes, flag_bytes, last_flag_bytes};
+ghost use Rattle.smp_model.specs.Said.{entry_value, images, reply_value, slots_of, version_text};
 
-use crate::pairs::{put_bytes, put_number, put_truth, put_words};
 use arrayvec::{ArrayString, ArrayVec};
 use itoa::Buffer;
 use smp_cbor::{put_list, put_map, put_text};
-use smp_model::{SlotEntry, Version};
+use smp_model::pair::{put_bytes, put_number, put_truth, put_words};
+use smp_model::{SidePair, SlotEntry, Version};
 
 /// `major.minor.revision`, and `.build` where the build is not 0.
 fn text_of(version: &Version) -> ArrayString<24>
@@ -32,11 +33,17 @@ fn text_of(version: &Version) -> ArrayString<24>
 
 /// What is said of one slot.
 #[tactic(auto, unfolding(smp_cbor::specs::Shortest::shortest, smp_cbor::specs::Shortest::shortest_pairs))]
-fn put_entry(out: &mut ArrayVec<u8, 2048>, entry: &SlotEntry)
-    requires { array_vec_len out.old + length (shortest (entry_value entry.now)) ≤ 2048 }
-    ensures { out.new.items ≡ out.old.items ++ shortest (entry_value entry.now) }
+fn put_entry(out: &mut ArrayVec<u8, 2048>, image: Option<u32>, entry: &SlotEntry)
+    requires { array_vec_len out.old + length (shortest (entry_value (image, entry.now))) ≤ 2048 }
+    ensures { out.new.items ≡ out.old.items ++ shortest (entry_value (image, entry.now)) }
 {
-    put_map(out, 8);
+    match image {
+        None => put_map(out, 8),
+        Some(number) => {
+            put_map(out, 9);
+            put_number(out, "image", number);
+        }
+    }
     put_image(out, entry);
     put_flags(out, entry);
     put_last_flags(out, entry);
@@ -71,23 +78,81 @@ fn put_last_flags(out: &mut ArrayVec<u8, 2048>, entry: &SlotEntry)
     put_truth(out, "permanent", entry.permanent);
 }
 
+/// The slots of an image.
+#[tactic(auto, unfolding(smp_cbor::specs::Shortest::shortest_values))]
+fn put_pair(out: &mut ArrayVec<u8, 2048>, image: Option<u32>, pair: &SidePair)
+    requires { array_vec_len out.old
+        + length (shortest_values (values (each entry_value (slots_of image pair.now))))
+        ≤ 2048 }
+    ensures { out.new.items
+        ≡ out.old.items ++ shortest_values (values (each entry_value (slots_of image pair.now))) }
+{
+    put_entry(out, image, &pair.first);
+    if let Some(second) = &pair.second {
+        put_entry(out, image, second);
+    }
+}
+
+/// How many slots have an entry.
+fn count_of(pair: &SidePair) -> u16
+    ensures count { (image : Option ℕ)
+        → result ≡ values_count (values (each entry_value (slots_of image pair.now))) }
+    ensures few { result ≤ 2 }
+{
+    match pair.second {
+        None => 1,
+        Some(_) => 2,
+    }
+}
+
+/// A list with the slots of the only image.
+#[tactic(auto, unfolding(smp_cbor::specs::Shortest::shortest))]
+fn put_one(out: &mut ArrayVec<u8, 2048>, pair: &SidePair)
+    requires { array_vec_len out.old
+        + length (shortest (list (values (each entry_value (slots_of None pair.now)))))
+        ≤ 2048 }
+    ensures { out.new.items
+        ≡ out.old.items ++ shortest (list (values (each entry_value (slots_of None pair.now)))) }
+{
+    put_list(out, count_of(pair));
+    put_pair(out, None, pair);
+}
+
+/// A list with the slots of two images.
+#[tactic(auto, unfolding(smp_cbor::specs::Shortest::shortest), using(crate::proofs::Lists::two_laid, crate::proofs::Lists::two_counted))]
+fn put_two(out: &mut ArrayVec<u8, 2048>, pair: &SidePair, other: &SidePair)
+    requires { array_vec_len out.old
+        + length
+        (shortest
+        (list
+        (values
+        (each entry_value
+        (slots_of (Some 0) pair.now ++ slots_of (Some 1) other.now)))))
+        ≤ 2048 }
+    ensures { out.new.items
+        ≡ out.old.items
+        ++ shortest
+        (list
+        (values
+        (each entry_value
+        (slots_of (Some 0) pair.now ++ slots_of (Some 1) other.now)))) }
+{
+    put_list(out, count_of(pair) + count_of(other));
+    put_pair(out, Some(0), pair);
+    put_pair(out, Some(1), other);
+}
+
 /// `{"images": list}`, with an entry for each slot.
-#[tactic(auto, unfolding(smp_cbor::specs::Shortest::shortest, smp_cbor::specs::Shortest::shortest_pairs, smp_cbor::specs::Shortest::shortest_values))]
-pub fn put_images(out: &mut ArrayVec<u8, 2048>, first: &SlotEntry, second: &Option<SlotEntry>)
-    requires { array_vec_len out.old + length (shortest (reply_value 1 (images (and_second first.now second.now)))) ≤ 2048 }
-    ensures { out.new.items ≡ out.old.items ++ shortest (reply_value 1 (images (and_second first.now second.now))) }
+#[tactic(auto, unfolding(smp_cbor::specs::Shortest::shortest, smp_cbor::specs::Shortest::shortest_pairs))]
+pub fn put_images(out: &mut ArrayVec<u8, 2048>, pair: &SidePair, other: &Option<SidePair>)
+    requires { array_vec_len out.old + length (shortest (reply_value 1 (images pair.now other.now)))
+        ≤ 2048 }
+    ensures { out.new.items ≡ out.old.items ++ shortest (reply_value 1 (images pair.now other.now)) }
 {
     put_map(out, 1);
     put_text(out, "images");
-    match second {
-        None => {
-            put_list(out, 1);
-            put_entry(out, first);
-        }
-        Some(second) => {
-            put_list(out, 2);
-            put_entry(out, first);
-            put_entry(out, second);
-        }
+    match other {
+        None => put_one(out, pair),
+        Some(other) => put_two(out, pair, other),
     }
 }

@@ -1,15 +1,15 @@
 //! What is written is read again.
 
-ghost use Rattle.std.specs.Prelude.{◌≡◌, ◌^◌, ◌<◌, ◌≤◌, ◌⊎◌, Some, length, min};
+ghost use Rattle.std.specs.Prelude.{◌≡◌, ◌^◌, ◌<◌, ◌≤◌, ◌⊎◌, ℕ, Option, Some, length, min};
+ghost use Rattle.std.specs.List.{All};
 ghost use Rattle.smp_header.specs.Message.{Message, packet, message_of};
-ghost use Rattle.smp_cbor.specs.Shortest.{IsText};
 ghost use Rattle.smp_model.specs.declared.device.AbstractDevice.{AbstractDevice as Device};
 ghost use Rattle.smp_model.specs.declared.device.Sizes.{Sizes as FlashSizes};
 ghost use Rattle.smp_model.specs.Does.{does};
 ghost use Rattle.smp_model.specs.Meant.{Meant};
-ghost use Rattle.smp_model.specs.Said.{and_second, said_of, reply_message, reply_bytes};
+ghost use Rattle.smp_model.specs.Said.{listed, said_of, slots_of, reply_message, reply_bytes};
 ghost use Rattle.smp_reply.specs.Held.{CanSay, CanSayEach, CanSayEntry, CanSayNumber};
-ghost use Rattle.smp_reply.specs.Room.{room_of};
+ghost use Rattle.smp_reply.specs.Room.{room_of, EchoFits};
 ghost use Rattle.smp_reply.specs.Sendable.{IsSendable};
 ghost use Rattle.smp_reply.specs.StandsFor.{stands_for};
 ghost use Rattle.smp_reply.specs.Told.{told};
@@ -17,7 +17,8 @@ ghost use Rattle.smp_reply.specs.Told.{told};
 use crate::answer::Asked;
 use smp_cbor::shortest_is_read;
 use smp_header::Packet;
-use smp_model::{Reply, SlotEntry, Version};
+use smp_model::memory::{bytes_are_counted, hashes_have_32_bytes, texts_are_utf8};
+use smp_model::{Reply, SidePair, SlotEntry, Version};
 
 /// What [`write_reply`](crate::write_reply) writes is a packet, and reading its data gives the answer that the reply
 /// stands for, whatever kind of answer is asked for. The call does nothing: it stands for the law.
@@ -26,8 +27,10 @@ pub fn reads_back(to: &Packet<'_>, reply: &Reply<'_>, asked: Asked)
     requires version { to.now.version ≤ 3 }
     requires sendable { IsSendable (said_of reply.now) }
     requires fits { length (reply_bytes (message_of to.now) (said_of reply.now)) ≤ 2048 }
-    ensures is_packet { packet (reply_bytes (message_of to.now) (said_of reply.now)) ≡ Some (reply_message (message_of to.now) (said_of reply.now)) }
-    ensures answer { told asked (reply_message (message_of to.now) (said_of reply.now)).bytes ≡ stands_for (min to.now.version 1) asked (said_of reply.now) }
+    ensures is_packet { packet (reply_bytes (message_of to.now) (said_of reply.now))
+        ≡ Some (reply_message (message_of to.now) (said_of reply.now)) }
+    ensures answer { told asked (reply_message (message_of to.now) (said_of reply.now)).bytes
+        ≡ stands_for (min to.now.version 1) asked (said_of reply.now) }
 {
     let _group = to.group;
     held(reply);
@@ -35,10 +38,11 @@ pub fn reads_back(to: &Packet<'_>, reply: &Reply<'_>, asked: Asked)
 }
 
 /// The packet of a reply has no more bytes than `room_of` says, whatever packet it answers: 11 with the text of an echo
-/// and the head of that text, 200 beside the bytes of a setting or of a file, 60 with 240 for each entry of a list of
+/// and the head of that text, 200 beside the bytes of a setting or of a file, 60 with 260 for each entry of a list of
 /// images, and 200 for all else. The call does nothing: it stands for the law, by which a caller sees that a reply fits.
 pub fn fits_within(reply: &Reply<'_>)
-    ensures { (to : Message) → length (reply_bytes to (said_of reply.now)) ≤ room_of (said_of reply.now) }
+    ensures { (to : Message)
+        → length (reply_bytes to (said_of reply.now)) ≤ room_of (said_of reply.now) }
 {
     held(reply);
 }
@@ -46,20 +50,16 @@ pub fn fits_within(reply: &Reply<'_>)
 /// What the abstract device answers can be sent: an error of a group is in the table of group errors, and the length of a
 /// file stands with its first part alone. The call does nothing: it stands for the law.
 pub fn device_replies_are_sendable()
-    ensures { (sizes : FlashSizes) (device : Device) (request : Meant) → IsSendable (does sizes device request).reply }
+    ensures { (sizes : FlashSizes) (device : Device) (request : Meant)
+        → IsSendable (does sizes device request).reply }
 {}
 
-/// A text is UTF-8, and no longer than memory.
-fn is_text(_text: &str)
-    ensures { IsText _text.now }
-{}
-
-fn is_short(_bytes: &[u8])
-    ensures { length _bytes.now < 2 ^ 64 }
-{}
-
-fn is_hash(_hash: &[u8; 32])
-    ensures { length _hash.now ≡ 32 }
+/// What the abstract device answers fits a packet, where its running settings have values of at most 128 bytes, and a request
+/// that is an echo came in a packet. The call does nothing: it stands for the law.
+pub fn device_replies_fit()
+    ensures { (sizes : FlashSizes) (device : Device) (request : Meant)
+        → All (λ s. length s.val ≤ 128) device.running → EchoFits request
+        → room_of (does sizes device request).reply ≤ 2048 }
 {}
 
 /// The parts of a reply are as their types say.
@@ -73,7 +73,7 @@ fn held(reply: &Reply<'_>)
         Reply::GroupError { group, number } => {
             let _numbers = (*group, *number);
         }
-        Reply::Echo(text) => is_text(text),
+        Reply::Echo(text) => texts_are_utf8(text),
         Reply::StatGroup {
             handled,
             dropped,
@@ -81,22 +81,22 @@ fn held(reply: &Reply<'_>)
         } => {
             let _numbers = (*handled, *dropped, *errors);
         }
-        Reply::Images { first, second } => held_entries(first, second),
+        Reply::Images { zero, one } => held_pairs(zero, one),
         Reply::Offset { off, .. } => {
             let _off = *off;
         }
-        Reply::Setting(val) => is_short(val),
+        Reply::Setting(val) => bytes_are_counted(val),
         Reply::FilePart { off, len, bytes } => {
             let _off = *off;
             held_number(*len);
-            is_short(bytes);
+            bytes_are_counted(bytes);
         }
         Reply::FileLength(len) => {
             let _len = *len;
         }
         Reply::FileHash { off, len, output } => {
             let _numbers = (*off, *len);
-            is_hash(output);
+            hashes_have_32_bytes(output);
         }
         Reply::Empty | Reply::Parameters | Reply::StatList | Reply::FileTypes => {}
     }
@@ -110,12 +110,21 @@ fn held_number(number: Option<u32>)
     }
 }
 
-fn held_entries(first: &SlotEntry, second: &Option<SlotEntry>)
-    ensures few { length (and_second first.now second.now) ≤ 8 }
-    ensures each { CanSayEach (and_second first.now second.now) }
+fn held_pairs(pair: &SidePair, other: &Option<SidePair>)
+    ensures few { length (listed pair.now other.now) ≤ 8 }
+    ensures each { CanSayEach (listed pair.now other.now) }
 {
-    held_entry(first);
-    if let Some(second) = second {
+    held_pair(pair);
+    if let Some(other) = other {
+        held_pair(other);
+    }
+}
+
+fn held_pair(pair: &SidePair)
+    ensures { (image : Option ℕ) → CanSayNumber image → CanSayEach (slots_of image pair.now) }
+{
+    held_entry(&pair.first);
+    if let Some(second) = &pair.second {
         held_entry(second);
     }
 }

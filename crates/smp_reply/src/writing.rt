@@ -11,10 +11,10 @@ ghost use Rattle.smp_reply.specs.Sendable.{IsSendable};
 
 use crate::errors::version_1_number;
 use crate::images::put_images;
-use crate::pairs::{put_bytes, put_number, put_truth, put_words};
 use arrayvec::ArrayVec;
 use smp_cbor::{put_list, put_map, put_text};
 use smp_header::{Packet, write_header};
+use smp_model::pair::{put_bytes, put_number, put_truth, put_words};
 use smp_model::{Reply, set_length};
 
 /// Writes the whole packet that answers the request `to`, with the keys of the reply in their order. It repeats the
@@ -47,7 +47,8 @@ pub fn write_reply(out: &mut ArrayVec<u8, 2048>, to: &Packet<'_>, reply: &Reply<
 /// The data of a reply, by the version bits that it is written with.
 #[tactic(auto, unfolding(smp_cbor::specs::Shortest::shortest, smp_cbor::specs::Shortest::shortest_pairs, smp_cbor::specs::Shortest::shortest_values))]
 fn write_data(out: &mut ArrayVec<u8, 2048>, version: u8, reply: &Reply<'_>)
-    requires { array_vec_len out.old + length (shortest (reply_value version (said_of reply.now))) ≤ 2048 }
+    requires { array_vec_len out.old + length (shortest (reply_value version (said_of reply.now)))
+        ≤ 2048 }
     ensures { out.new.items ≡ out.old.items ++ shortest (reply_value version (said_of reply.now)) }
 {
     match reply {
@@ -70,7 +71,7 @@ fn write_data(out: &mut ArrayVec<u8, 2048>, version: u8, reply: &Reply<'_>)
             put_list(out, 1);
             put_text(out, "smp");
         }
-        Reply::Images { first, second } => put_images(out, first, second),
+        Reply::Images { zero, one } => put_images(out, zero, one),
         Reply::Offset { off, matched } => put_offset(out, *off, *matched),
         Reply::Setting(val) => {
             put_map(out, 1);
@@ -89,7 +90,8 @@ fn write_data(out: &mut ArrayVec<u8, 2048>, version: u8, reply: &Reply<'_>)
 /// `{"rc": number}`
 #[tactic(auto, unfolding(smp_cbor::specs::Shortest::shortest, smp_cbor::specs::Shortest::shortest_pairs))]
 fn put_error(out: &mut ArrayVec<u8, 2048>, number: u32)
-    requires { array_vec_len out.old + length (shortest (reply_value 1 (said.smp_error number))) ≤ 2048 }
+    requires { array_vec_len out.old + length (shortest (reply_value 1 (said.smp_error number)))
+        ≤ 2048 }
     ensures { out.new.items ≡ out.old.items ++ shortest (reply_value 1 (said.smp_error number)) }
 {
     put_map(out, 1);
@@ -99,8 +101,11 @@ fn put_error(out: &mut ArrayVec<u8, 2048>, number: u32)
 /// `{"err": {"group": group, "rc": number}}`, and in version 1 the one number that stands for both.
 #[tactic(auto, unfolding(smp_cbor::specs::Shortest::shortest, smp_cbor::specs::Shortest::shortest_pairs))]
 fn put_group_error(out: &mut ArrayVec<u8, 2048>, version: u8, group: u16, number: u32)
-    requires { array_vec_len out.old + length (shortest (reply_value version (said.group_error group number))) ≤ 2048 }
-    ensures { out.new.items ≡ out.old.items ++ shortest (reply_value version (said.group_error group number)) }
+    requires { array_vec_len out.old
+        + length (shortest (reply_value version (said.group_error group number)))
+        ≤ 2048 }
+    ensures { out.new.items
+        ≡ out.old.items ++ shortest (reply_value version (said.group_error group number)) }
 {
     if version == 0 {
         put_error(out, version_1_number(group, number));
@@ -127,8 +132,11 @@ fn put_parameters(out: &mut ArrayVec<u8, 2048>)
 /// `{"name": "smp", "fields": {"handled": n, "dropped": n, "errors": n}}`
 #[tactic(auto, unfolding(smp_cbor::specs::Shortest::shortest, smp_cbor::specs::Shortest::shortest_pairs))]
 fn put_stat_group(out: &mut ArrayVec<u8, 2048>, handled: u32, dropped: u32, errors: u32)
-    requires { array_vec_len out.old + length (shortest (reply_value 1 (said.stat_group handled dropped errors))) ≤ 2048 }
-    ensures { out.new.items ≡ out.old.items ++ shortest (reply_value 1 (said.stat_group handled dropped errors)) }
+    requires { array_vec_len out.old
+        + length (shortest (reply_value 1 (said.stat_group handled dropped errors)))
+        ≤ 2048 }
+    ensures { out.new.items
+        ≡ out.old.items ++ shortest (reply_value 1 (said.stat_group handled dropped errors)) }
 {
     put_map(out, 2);
     put_words(out, "name", "smp");
@@ -139,7 +147,8 @@ fn put_stat_group(out: &mut ArrayVec<u8, 2048>, handled: u32, dropped: u32, erro
 /// `{"handled": n, "dropped": n, "errors": n}`
 #[tactic(auto, unfolding(smp_cbor::specs::Shortest::shortest, smp_cbor::specs::Shortest::shortest_pairs))]
 fn put_numbers(out: &mut ArrayVec<u8, 2048>, handled: u32, dropped: u32, errors: u32)
-    requires { array_vec_len out.old + length (shortest (numbers_value handled dropped errors)) ≤ 2048 }
+    requires { array_vec_len out.old + length (shortest (numbers_value handled dropped errors))
+        ≤ 2048 }
     ensures { out.new.items ≡ out.old.items ++ shortest (numbers_value handled dropped errors) }
 {
     put_map(out, 3);
@@ -151,7 +160,8 @@ fn put_numbers(out: &mut ArrayVec<u8, 2048>, handled: u32, dropped: u32, errors:
 /// `{"off": off}`, and `match` where it is there.
 #[tactic(auto, unfolding(smp_cbor::specs::Shortest::shortest, smp_cbor::specs::Shortest::shortest_pairs))]
 fn put_offset(out: &mut ArrayVec<u8, 2048>, off: u32, matched: Option<bool>)
-    requires { array_vec_len out.old + length (shortest (reply_value 1 (said.offset off matched))) ≤ 2048 }
+    requires { array_vec_len out.old + length (shortest (reply_value 1 (said.offset off matched)))
+        ≤ 2048 }
     ensures { out.new.items ≡ out.old.items ++ shortest (reply_value 1 (said.offset off matched)) }
 {
     match matched {
@@ -170,8 +180,11 @@ fn put_offset(out: &mut ArrayVec<u8, 2048>, off: u32, matched: Option<bool>)
 /// `{"off": off, "data": bytes}`, and `len` where it is there.
 #[tactic(auto, unfolding(smp_cbor::specs::Shortest::shortest, smp_cbor::specs::Shortest::shortest_pairs))]
 fn put_file_part(out: &mut ArrayVec<u8, 2048>, off: u32, len: Option<u32>, bytes: &[u8])
-    requires { array_vec_len out.old + length (shortest (reply_value 1 (said.file_part off len bytes.now))) ≤ 2048 }
-    ensures { out.new.items ≡ out.old.items ++ shortest (reply_value 1 (said.file_part off len bytes.now)) }
+    requires { array_vec_len out.old
+        + length (shortest (reply_value 1 (said.file_part off len bytes.now)))
+        ≤ 2048 }
+    ensures { out.new.items
+        ≡ out.old.items ++ shortest (reply_value 1 (said.file_part off len bytes.now)) }
 {
     put_map(out, if len.is_some() { 3 } else { 2 });
     put_number(out, "off", off);
@@ -184,8 +197,11 @@ fn put_file_part(out: &mut ArrayVec<u8, 2048>, off: u32, len: Option<u32>, bytes
 /// `{"type": "sha256", "off": off, "len": len, "output": hash}`, without an offset of 0.
 #[tactic(auto, unfolding(smp_cbor::specs::Shortest::shortest, smp_cbor::specs::Shortest::shortest_pairs))]
 fn put_file_hash(out: &mut ArrayVec<u8, 2048>, off: u32, len: u32, output: &[u8; 32])
-    requires { array_vec_len out.old + length (shortest (reply_value 1 (said.file_hash off len output.now))) ≤ 2048 }
-    ensures { out.new.items ≡ out.old.items ++ shortest (reply_value 1 (said.file_hash off len output.now)) }
+    requires { array_vec_len out.old
+        + length (shortest (reply_value 1 (said.file_hash off len output.now)))
+        ≤ 2048 }
+    ensures { out.new.items
+        ≡ out.old.items ++ shortest (reply_value 1 (said.file_hash off len output.now)) }
 {
     put_map(out, if off == 0 { 3 } else { 4 });
     put_words(out, "type", "sha256");

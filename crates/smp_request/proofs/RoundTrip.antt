@@ -7,9 +7,9 @@ use Rattle.smp_cbor.specs.Heads.{◌>>=◌}
 use Rattle.smp_cbor.specs.Values.{unsigned, map_of}
 use Rattle.smp_cbor.specs.Shortest.{shortest}
 use Rattle.smp_cbor.specs.Laws.{ShortestIsRead}
-use Rattle.smp_model.specs.Table.{number, words, bytes, truth, a_number, a_text, some_bytes, a_truth, required, optional, counts_as, always, table, named, operation_of}
+use Rattle.smp_model.specs.Table.{number, words, bytes, truth, a_number, a_text, some_bytes, a_truth, required, optional, counts_as, always, table, name_at, operation_of}
 use Rattle.smp_model.specs.Meant.{Meant, echo, reset, parameters, image_list, image_set, upload, erase, stat_group, stat_list, setting_read, setting_write, setting_delete, commit, load, save, file_read, file_write, file_status, file_hash, file_types, file_close, name_of, fields_of, made}
-use Rattle.smp_model.specs.Meaning.{field, settled, fields, by_row, meaning}
+use Rattle.smp_model.specs.Meaning.{field, by_need, fields, by_row, meaning}
 use Rattle.smp_model.specs.Written.{field_value, unless_number, written_field, written_pairs, request_value, request_message, request_bytes}
 use Rattle.smp_request.specs.Held.{CanHold, CanHoldEach}
 use Rattle.smp_request.proofs.Again.{number_again, words_again, bytes_again}
@@ -24,7 +24,7 @@ made_back reset = refl
 made_back parameters = refl
 made_back image_list = refl
 made_back (image_set hash confirm) = rw (bytes_again hash) refl
-made_back (upload image len off sha part) = rw (number_again len, bytes_again sha) refl
+made_back (upload image len off sha part) = rw (number_again image, number_again len, bytes_again sha) refl
 made_back (erase slot) = refl
 made_back (stat_group name) = refl
 made_back stat_list = refl
@@ -44,34 +44,27 @@ made_back file_close = refl
 number_read : (n : ℕ) → n < 2 ^ 32 → field a_number (Some (unsigned n)) ≡ Ok (Some (number n))
 number_read n lt = let t : nat_lt n (2 ^ 32) ≡ true = grind (arith, nat_tests) in rw t refl
 
-required_number : (n : ℕ) → n < 2 ^ 32 → (field a_number (Some (unsigned n)) >>= settled required) ≡ Ok (Some (number n))
+required_number : (n : ℕ) → n < 2 ^ 32 → (field a_number (Some (unsigned n)) >>= by_need required) ≡ Ok (Some (number n))
 required_number n lt = rw (number_read n lt) refl
 
-always_number : (d n : ℕ) → n < 2 ^ 32 → (field a_number (Some (unsigned n)) >>= settled (always (number d))) ≡ Ok (Some (number n))
+always_number : (d n : ℕ) → n < 2 ^ 32 → (field a_number (Some (unsigned n)) >>= by_need (always (number d))) ≡ Ok (Some (number n))
 always_number d n lt = rw (number_read n lt) refl
 
-optional_number : (o : Option ℕ) → CanHold (option_map number o) → (field a_number (option_map field_value (written_field optional (option_map number o))) >>= settled optional) ≡ Ok (option_map number o)
+optional_number : (o : Option ℕ) → CanHold (option_map number o) → (field a_number (option_map field_value (written_field optional (option_map number o))) >>= by_need optional) ≡ Ok (option_map number o)
 optional_number None can = refl
 optional_number (Some n) can = rw (number_read n can) refl
 
-optional_bytes : (o : Option (List ℕ)) → (field some_bytes (option_map field_value (written_field optional (option_map bytes o))) >>= settled optional) ≡ Ok (option_map bytes o)
+optional_bytes : (o : Option (List ℕ)) → (field some_bytes (option_map field_value (written_field optional (option_map bytes o))) >>= by_need optional) ≡ Ok (option_map bytes o)
 optional_bytes None = refl
 optional_bytes (Some b) = refl
 
-optional_words : (o : Option (List ℕ)) → (field a_text (option_map field_value (written_field optional (option_map words o))) >>= settled optional) ≡ Ok (option_map words o)
+optional_words : (o : Option (List ℕ)) → (field a_text (option_map field_value (written_field optional (option_map words o))) >>= by_need optional) ≡ Ok (option_map words o)
 optional_words None = refl
 optional_words (Some t) = refl
 
-confirm_truth : (b : Bool) → (field a_truth (option_map field_value (written_field (counts_as (truth false)) (Some (truth b)))) >>= settled (counts_as (truth false))) ≡ Ok (Some (truth b))
+confirm_truth : (b : Bool) → (field a_truth (option_map field_value (written_field (counts_as (truth false)) (Some (truth b)))) >>= by_need (counts_as (truth false))) ≡ Ok (Some (truth b))
 confirm_truth true = refl
 confirm_truth false = refl
-
-default_number : (d n : ℕ) → n < 2 ^ 32 → (field a_number (option_map field_value (unless_number d n)) >>= settled (counts_as (number d))) ≡ Ok (Some (number n))
-default_number d n lt = by_test (eqb n d) refl
-  where
-    by_test : (b : Bool) → eqb n d ≡ b → (field a_number (option_map field_value (cond b None (Some (number n)))) >>= settled (counts_as (number d))) ≡ Ok (Some (number n))
-    by_test true e = let same : d ≡ n = grind (arith, nat_tests) in ap (λ k. Ok (Some (number k))) same
-    by_test false e = rw (number_read n lt) refl
 
 are_fields : (m : Meant) → CanHoldEach (fields_of m) → AreFields (table (name_of m)).keys (fields_of m)
 are_fields (echo t) can = (refl, tt)
@@ -80,7 +73,7 @@ are_fields parameters can = tt
 are_fields image_list can = tt
 are_fields (image_set hash confirm) can = (optional_bytes hash, (confirm_truth confirm, tt))
 are_fields (upload image len off sha part) can =
-    (default_number 0 image can.0, (optional_number len can.1.0, (required_number off can.1.1.0, (optional_bytes sha, (refl, (refl, tt))))))
+    (optional_number image can.0, (optional_number len can.1.0, (required_number off can.1.1.0, (optional_bytes sha, (refl, (refl, tt))))))
 are_fields (erase slot) can = (always_number 1 slot can.0, tt)
 are_fields (stat_group name) can = (refl, tt)
 are_fields stat_list can = tt
@@ -107,9 +100,9 @@ means_again is_read version sequence m le can =
     let small = is_small n in
     let read : map_of (shortest (request_value m)) ≡ Ok (written_pairs ks fs) = is_read (written_pairs ks fs) (written_has ks fs (sound_keys n) small.keys can) in
     let back : fields ks (written_pairs ks fs) ≡ Ok fs = fields_back ks fs (sound_keys n) (are_fields m can) in
-    let named : by_row (named (table n).group (table n).command (operation_of (table n).operations)) (shortest (request_value m)) ≡ by_row (Some n) (shortest (request_value m)) = ap (λ o. by_row o (shortest (request_value m))) (named_again n) in
+    let found_row : by_row (name_at (table n).group (table n).command (operation_of (table n).operations)) (shortest (request_value m)) ≡ by_row (Some n) (shortest (request_value m)) = ap (λ o. by_row o (shortest (request_value m))) (named_again n) in
     let filled_by : by_row (Some n) (shortest (request_value m)) ≡ Ok m = rw (read, back, made_back m) refl in
-    rw recent (named ∙ filled_by)
+    rw recent (found_row ∙ filled_by)
 
 pub is_packet : (version sequence : ℕ) (m : Meant) → version ≤ 1 → length (request_bytes version sequence m) ≤ 2048 → packet (request_bytes version sequence m) ≡ Some (request_message version sequence m)
 is_packet version sequence m le fits =

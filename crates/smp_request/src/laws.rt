@@ -2,7 +2,6 @@
 
 ghost use Rattle.std.specs.Prelude.{◌≡◌, ℕ, ◌+◌, ◌^◌, ◌<◌, ◌≤◌, Some, Ok, length, option_map};
 ghost use Rattle.smp_header.specs.Message.{packet};
-ghost use Rattle.smp_cbor.specs.Shortest.{IsText};
 ghost use Rattle.smp_model.specs.Table.{number as number_field, words, bytes as bytes_field};
 ghost use Rattle.smp_model.specs.Meant.{meant_of, fields_of, upload};
 ghost use Rattle.smp_model.specs.Meaning.{meaning};
@@ -11,6 +10,7 @@ ghost use Rattle.smp_request.specs.Held.{CanHold, CanHoldEach};
 ghost use Rattle.smp_request.specs.Room.{strings_of};
 
 use smp_cbor::shortest_is_read;
+use smp_model::memory::{bytes_are_counted, texts_are_utf8};
 use smp_model::{Request, UploadPart};
 
 /// What [`write_request`](crate::write_request) writes is a packet, and that packet means the request, whatever its
@@ -18,8 +18,10 @@ use smp_model::{Request, UploadPart};
 pub fn reads_back(version: u8, sequence: u8, request: &Request<'_>)
     requires version { version ≤ 1 }
     requires fits { length (request_bytes version sequence (meant_of request.now)) ≤ 2048 }
-    ensures is_packet { packet (request_bytes version sequence (meant_of request.now)) ≡ Some (request_message version sequence (meant_of request.now)) }
-    ensures means { meaning (request_message version sequence (meant_of request.now)) ≡ Ok (meant_of request.now) }
+    ensures is_packet { packet (request_bytes version sequence (meant_of request.now))
+        ≡ Some (request_message version sequence (meant_of request.now)) }
+    ensures means { meaning (request_message version sequence (meant_of request.now))
+        ≡ Ok (meant_of request.now) }
 {
     held(request);
     shortest_is_read();
@@ -29,19 +31,12 @@ pub fn reads_back(version: u8, sequence: u8, request: &Request<'_>)
 /// sequence. The call does nothing: it stands for the law, by which a caller sees that a request fits.
 pub fn fits_within(request: &Request<'_>)
     requires { strings_of (meant_of request.now) < 2 ^ 32 }
-    ensures { (version sequence : ℕ) → length (request_bytes version sequence (meant_of request.now)) ≤ 70 + strings_of (meant_of request.now) }
+    ensures { (version sequence : ℕ)
+        → length (request_bytes version sequence (meant_of request.now))
+        ≤ 70 + strings_of (meant_of request.now) }
 {
     held(request);
 }
-
-/// A text is UTF-8, and no longer than memory.
-fn is_text(_text: &str)
-    ensures { IsText _text.now }
-{}
-
-fn is_short(_bytes: &[u8])
-    ensures { length _bytes.now < 2 ^ 64 }
-{}
 
 /// The fields of a request are as their types say.
 fn held(request: &Request<'_>)
@@ -51,22 +46,22 @@ fn held(request: &Request<'_>)
         Request::Echo(text)
         | Request::StatGroup(text)
         | Request::SettingDelete { name: text }
-        | Request::FileStatus { name: text } => is_text(text),
+        | Request::FileStatus { name: text } => texts_are_utf8(text),
         Request::ImageSet { hash, .. } => held_bytes(*hash),
         Request::Upload(part) => held_upload(part),
         Request::Erase { slot } => {
             let _slot = *slot;
         }
         Request::SettingRead { name, max_size } => {
-            is_text(name);
+            texts_are_utf8(name);
             held_number(*max_size);
         }
         Request::SettingWrite { name, val } => {
-            is_text(name);
-            is_short(val);
+            texts_are_utf8(name);
+            bytes_are_counted(val);
         }
         Request::FileRead { name, off } => {
-            is_text(name);
+            texts_are_utf8(name);
             let _off = *off;
         }
         Request::FileWrite {
@@ -75,10 +70,10 @@ fn held(request: &Request<'_>)
             len,
             bytes,
         } => {
-            is_text(name);
+            texts_are_utf8(name);
             let _off = *off;
             held_number(*len);
-            is_short(bytes);
+            bytes_are_counted(bytes);
         }
         Request::FileHash {
             name,
@@ -86,7 +81,7 @@ fn held(request: &Request<'_>)
             off,
             len,
         } => {
-            is_text(name);
+            texts_are_utf8(name);
             held_text(*kind);
             let _off = *off;
             held_number(*len);
@@ -107,7 +102,7 @@ fn held_text(text: Option<&str>)
     ensures { CanHold (option_map words (option_map (λ t. t.now) text.entry)) }
 {
     if let Some(text) = text {
-        is_text(text);
+        texts_are_utf8(text);
     }
 }
 
@@ -115,16 +110,17 @@ fn held_bytes(bytes: Option<&[u8]>)
     ensures { CanHold (option_map bytes_field (option_map (λ b. b.now) bytes.entry)) }
 {
     if let Some(bytes) = bytes {
-        is_short(bytes);
+        bytes_are_counted(bytes);
     }
 }
 
 fn held_upload(part: &UploadPart<'_>)
-    ensures { let p = part.now in CanHoldEach (fields_of (upload p.image p.len p.off (option_map (λ s. s.now) p.sha) p.bytes.now)) }
+    ensures { let p = part.now in CanHoldEach
+        (fields_of (upload p.image p.len p.off (option_map (λ s. s.now) p.sha) p.bytes.now)) }
 {
-    let _image = part.image;
+    held_number(part.image);
     held_number(part.len);
     let _off = part.off;
     held_bytes(part.sha);
-    is_short(part.bytes);
+    bytes_are_counted(part.bytes);
 }

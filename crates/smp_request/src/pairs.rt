@@ -3,42 +3,48 @@
 ghost use Rattle.std.specs.Prelude.{◌≡◌, ◌+◌, ◌≤◌, ◌++◌, false, length, option_map};
 ghost use Rattle.arrayvec.specs.ArrayVec.{array_vec_len};
 ghost use Rattle.smp_model.specs.Table.{number as number_field, words, bytes as bytes_field, truth};
-ghost use Rattle.smp_model.specs.Written.{unless_number, unless_truth};
+ghost use Rattle.smp_model.specs.Written.{unless_truth};
 ghost use Rattle.smp_request.specs.Parts.{pair_bytes, one_if};
 
 use arrayvec::ArrayVec;
-use smp_cbor::{put_bool, put_octets, put_text, put_unsigned};
+use smp_model::pair;
 
 /// A key and a whole number, where there is one.
 pub fn put_number(out: &mut ArrayVec<u8, 2048>, key: &str, value: Option<u32>)
-    requires { array_vec_len out.old + length (pair_bytes key.now (option_map number_field value)) ≤ 2048 }
+    requires { array_vec_len out.old + length (pair_bytes key.now (option_map number_field value))
+        ≤ 2048 }
     ensures { out.new.items ≡ out.old.items ++ pair_bytes key.now (option_map number_field value) }
 {
     if let Some(value) = value {
-        put_text(out, key);
-        put_unsigned(out, u64::from(value));
+        pair::put_number(out, key, value);
     }
 }
 
 /// A key and a string of bytes, where there is one.
 pub fn put_bytes(out: &mut ArrayVec<u8, 2048>, key: &str, value: Option<&[u8]>)
-    requires { array_vec_len out.old + length (pair_bytes key.now (option_map bytes_field (option_map (λ b. b.now) value))) ≤ 2048 }
-    ensures { out.new.items ≡ out.old.items ++ pair_bytes key.now (option_map bytes_field (option_map (λ b. b.now) value.entry)) }
+    requires { array_vec_len out.old
+        + length (pair_bytes key.now (option_map bytes_field (option_map (λ b. b.now) value)))
+        ≤ 2048 }
+    ensures { out.new.items
+        ≡ out.old.items
+        ++ pair_bytes key.now (option_map bytes_field (option_map (λ b. b.now) value.entry)) }
 {
     if let Some(value) = value {
-        put_text(out, key);
-        put_octets(out, value);
+        pair::put_bytes(out, key, value);
     }
 }
 
 /// A key and a text, where there is one.
 pub fn put_words(out: &mut ArrayVec<u8, 2048>, key: &str, value: Option<&str>)
-    requires { array_vec_len out.old + length (pair_bytes key.now (option_map words (option_map (λ t. t.now) value))) ≤ 2048 }
-    ensures { out.new.items ≡ out.old.items ++ pair_bytes key.now (option_map words (option_map (λ t. t.now) value.entry)) }
+    requires { array_vec_len out.old
+        + length (pair_bytes key.now (option_map words (option_map (λ t. t.now) value)))
+        ≤ 2048 }
+    ensures { out.new.items
+        ≡ out.old.items
+        ++ pair_bytes key.now (option_map words (option_map (λ t. t.now) value.entry)) }
 {
     if let Some(value) = value {
-        put_text(out, key);
-        put_text(out, value);
+        pair::put_words(out, key, value);
     }
 }
 
@@ -48,16 +54,8 @@ pub fn put_truth(out: &mut ArrayVec<u8, 2048>, key: &str, value: Option<bool>)
     ensures { out.new.items ≡ out.old.items ++ pair_bytes key.now (option_map truth value) }
 {
     if let Some(value) = value {
-        put_text(out, key);
-        put_bool(out, value);
+        pair::put_truth(out, key, value);
     }
-}
-
-/// The number, where it is not what counts anyway.
-pub fn unless_default(value: u32, default: u32) -> Option<u32>
-    ensures { option_map number_field result ≡ unless_number default value }
-{
-    if value == default { None } else { Some(value) }
 }
 
 /// The truth value, where it is true.

@@ -6,19 +6,16 @@ ghost use Rattle.smp_cbor.specs.Heads.{Gives};
 ghost use Rattle.smp_cbor.specs.Values.{map_of, pairs};
 ghost use Rattle.smp_cbor.specs.Spelling.{SpellsMap};
 ghost use Rattle.smp_cbor.specs.Views.{entries};
-ghost use Rattle.smp_model.specs.Table.{table, words, is_echo, is_image_set, is_upload, is_erase, is_stat_group, is_setting_read, is_setting_write, is_file_read, is_file_write, is_file_hash};
+ghost use Rattle.smp_model.specs.Table.{table, words, echo_row, image_set_row, upload_row, erase_row, stat_group_row, setting_read_row, setting_write_row, file_read_row, file_write_row, file_hash_row};
 ghost use Rattle.smp_model.specs.Meant.{meant_of};
 ghost use Rattle.smp_model.specs.Meaning.{bare, by_row, fields, filled, meaning, or_invalid};
 ghost use Rattle.smp_request.specs.Room.{HasRoom};
 
-use crate::fields::{INVALID_VALUE, bytes_at, number_at, text_at, truth_at};
+use crate::fields::{bytes_at, number_at, text_at, truth_at};
 use smp_cbor::{MapView, read_map};
 use smp_header::Packet;
+use smp_model::error::{INVALID_VALUE, NOT_SUPPORTED, VERSION_TOO_NEW};
 use smp_model::{Request, UploadPart};
-
-const NOT_SUPPORTED: u32 = 8;
-
-const VERSION_TOO_NEW: u32 = 13;
 
 /// The request that a packet is, or the number of the error that it is answered with. The first of these decides:
 ///
@@ -90,7 +87,7 @@ fn plain<'a>(bytes: &'a [u8], request: Request<'a>) -> Result<Request<'a>, u32>
 }
 
 fn echo<'a>(bytes: &'a [u8]) -> Result<Request<'a>, u32>
-    ensures means { Gives meant_of result (by_row (Some is_echo) bytes.now) }
+    ensures means { Gives meant_of result (by_row (Some echo_row) bytes.now) }
     ensures room { IfOk result (λ request. HasRoom (meant_of request) (length bytes.now)) }
 {
     let map = data_of(bytes)?;
@@ -102,7 +99,7 @@ fn echo<'a>(bytes: &'a [u8]) -> Result<Request<'a>, u32>
 
 #[tactic(auto, using(crate::proofs::Again::fields_again))]
 fn image_set<'a>(map: &MapView<'a>) -> Result<Request<'a>, u32>
-    ensures { Gives meant_of result (filled is_image_set (entries map.now)) }
+    ensures { Gives meant_of result (filled image_set_row (entries map.now)) }
 {
     let hash = bytes_at(map, "hash")?;
     let confirm = truth_at(map, "confirm")?.unwrap_or(false);
@@ -111,9 +108,9 @@ fn image_set<'a>(map: &MapView<'a>) -> Result<Request<'a>, u32>
 
 #[tactic(auto, using(crate::proofs::Again::fields_again))]
 fn upload<'a>(map: &MapView<'a>) -> Result<Request<'a>, u32>
-    ensures { Gives meant_of result (filled is_upload (entries map.now)) }
+    ensures { Gives meant_of result (filled upload_row (entries map.now)) }
 {
-    let image = number_at(map, "image")?.unwrap_or(0);
+    let image = number_at(map, "image")?;
     let len = number_at(map, "len")?;
     let off = number_at(map, "off")?.ok_or(INVALID_VALUE)?;
     let sha = bytes_at(map, "sha")?;
@@ -129,7 +126,7 @@ fn upload<'a>(map: &MapView<'a>) -> Result<Request<'a>, u32>
 }
 
 fn erase<'a>(map: &MapView<'a>) -> Result<Request<'a>, u32>
-    ensures { Gives meant_of result (filled is_erase (entries map.now)) }
+    ensures { Gives meant_of result (filled erase_row (entries map.now)) }
 {
     let slot = number_at(map, "slot")?.unwrap_or(1);
     Ok(Request::Erase { slot })
@@ -137,14 +134,15 @@ fn erase<'a>(map: &MapView<'a>) -> Result<Request<'a>, u32>
 
 /// The one key of the rows that have a name alone.
 fn name<'a>(map: &MapView<'a>) -> Result<&'a str, u32>
-    ensures { Gives (λ t. Some (words t.now) ∷ []) result (fields (table is_stat_group).keys (entries map.now)) }
+    ensures { Gives (λ t. Some (words t.now) ∷ []) result
+        (fields (table stat_group_row).keys (entries map.now)) }
 {
     text_at(map, "name")?.ok_or(INVALID_VALUE)
 }
 
 #[tactic(auto, using(crate::proofs::Again::fields_again))]
 fn setting_read<'a>(map: &MapView<'a>) -> Result<Request<'a>, u32>
-    ensures { Gives meant_of result (filled is_setting_read (entries map.now)) }
+    ensures { Gives meant_of result (filled setting_read_row (entries map.now)) }
 {
     let name = text_at(map, "name")?.ok_or(INVALID_VALUE)?;
     let max_size = number_at(map, "max_size")?;
@@ -152,7 +150,7 @@ fn setting_read<'a>(map: &MapView<'a>) -> Result<Request<'a>, u32>
 }
 
 fn setting_write<'a>(map: &MapView<'a>) -> Result<Request<'a>, u32>
-    ensures { Gives meant_of result (filled is_setting_write (entries map.now)) }
+    ensures { Gives meant_of result (filled setting_write_row (entries map.now)) }
 {
     let name = text_at(map, "name")?.ok_or(INVALID_VALUE)?;
     let val = bytes_at(map, "val")?.ok_or(INVALID_VALUE)?;
@@ -160,7 +158,7 @@ fn setting_write<'a>(map: &MapView<'a>) -> Result<Request<'a>, u32>
 }
 
 fn file_read<'a>(map: &MapView<'a>) -> Result<Request<'a>, u32>
-    ensures { Gives meant_of result (filled is_file_read (entries map.now)) }
+    ensures { Gives meant_of result (filled file_read_row (entries map.now)) }
 {
     let off = number_at(map, "off")?.ok_or(INVALID_VALUE)?;
     let name = text_at(map, "name")?.ok_or(INVALID_VALUE)?;
@@ -169,7 +167,7 @@ fn file_read<'a>(map: &MapView<'a>) -> Result<Request<'a>, u32>
 
 #[tactic(auto, using(crate::proofs::Again::fields_again))]
 fn file_write<'a>(map: &MapView<'a>) -> Result<Request<'a>, u32>
-    ensures { Gives meant_of result (filled is_file_write (entries map.now)) }
+    ensures { Gives meant_of result (filled file_write_row (entries map.now)) }
 {
     let off = number_at(map, "off")?.ok_or(INVALID_VALUE)?;
     let bytes = bytes_at(map, "data")?.ok_or(INVALID_VALUE)?;
@@ -185,7 +183,7 @@ fn file_write<'a>(map: &MapView<'a>) -> Result<Request<'a>, u32>
 
 #[tactic(auto, using(crate::proofs::Again::fields_again))]
 fn file_hash<'a>(map: &MapView<'a>) -> Result<Request<'a>, u32>
-    ensures { Gives meant_of result (filled is_file_hash (entries map.now)) }
+    ensures { Gives meant_of result (filled file_hash_row (entries map.now)) }
 {
     let name = text_at(map, "name")?.ok_or(INVALID_VALUE)?;
     let kind = text_at(map, "type")?;

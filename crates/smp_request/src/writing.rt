@@ -9,7 +9,7 @@ ghost use Rattle.smp_request.specs.Parts.{data_of};
 
 use crate::pairs::{
     count_bytes, count_number, count_truth, count_words, if_set, put_bytes, put_number, put_truth,
-    put_words, unless_default,
+    put_words,
 };
 use arrayvec::ArrayVec;
 use smp_cbor::put_map;
@@ -17,11 +17,13 @@ use smp_header::write_header;
 use smp_model::{Request, UploadPart, set_length};
 
 /// Appends the whole packet of a request, in version 1 (version bits 0) or 2 (version bits 1), with the keys in the
-/// order of the table of requests. Keys that have no value are not written, nor is an image of 0 or a `confirm` that is
-/// false; the slot, and the offset of a file's hash, are always written.
+/// order of the table of requests. Keys that have no value are not written, nor is a `confirm` that is false; the
+/// slot, and the offset of a file's hash, are always written.
 pub fn write_request(out: &mut ArrayVec<u8, 2048>, version: u8, sequence: u8, request: &Request<'_>)
     requires version { version ≤ 1 }
-    requires fits { array_vec_len out.old + length (request_bytes version sequence (meant_of request.now)) ≤ 2048 }
+    requires fits { array_vec_len out.old
+        + length (request_bytes version sequence (meant_of request.now))
+        ≤ 2048 }
     ensures { out.new.items ≡ out.old.items ++ request_bytes version sequence (meant_of request.now) }
 {
     let start = out.len();
@@ -60,7 +62,8 @@ fn at(group: u16, command: u8, operation: u8) -> Place
 fn place_of(request: &Request<'_>) -> Place
     ensures group { result.group ≡ (table (name_of (meant_of request.now))).group }
     ensures command { result.command ≡ (table (name_of (meant_of request.now))).command }
-    ensures operation { result.operation ≡ operation_of (table (name_of (meant_of request.now))).operations }
+    ensures operation { result.operation
+        ≡ operation_of (table (name_of (meant_of request.now))).operations }
 {
     match request {
         Request::Echo(_) => at(0, 0, 2),
@@ -132,8 +135,11 @@ fn write_data(out: &mut ArrayVec<u8, 2048>, request: &Request<'_>)
 }
 
 fn write_image_set(out: &mut ArrayVec<u8, 2048>, hash: Option<&[u8]>, confirm: bool)
-    requires { array_vec_len out.old + length (data_of (image_set (option_map (λ h. h.now) hash) confirm)) ≤ 2048 }
-    ensures { out.new.items ≡ out.old.items ++ data_of (image_set (option_map (λ h. h.now) hash.entry) confirm) }
+    requires { array_vec_len out.old
+        + length (data_of (image_set (option_map (λ h. h.now) hash) confirm))
+        ≤ 2048 }
+    ensures { out.new.items
+        ≡ out.old.items ++ data_of (image_set (option_map (λ h. h.now) hash.entry) confirm) }
 {
     let confirm = if_set(confirm);
     put_map(out, count_bytes(hash) + count_truth(confirm));
@@ -142,13 +148,17 @@ fn write_image_set(out: &mut ArrayVec<u8, 2048>, hash: Option<&[u8]>, confirm: b
 }
 
 fn write_upload(out: &mut ArrayVec<u8, 2048>, part: &UploadPart<'_>)
-    requires { let p = part.now in array_vec_len out.old + length (data_of (upload p.image p.len p.off (option_map (λ s. s.now) p.sha) p.bytes.now)) ≤ 2048 }
-    ensures { let p = part.now in out.new.items ≡ out.old.items ++ data_of (upload p.image p.len p.off (option_map (λ s. s.now) p.sha) p.bytes.now) }
+    requires { let p = part.now in array_vec_len out.old
+        + length
+        (data_of (upload p.image p.len p.off (option_map (λ s. s.now) p.sha) p.bytes.now))
+        ≤ 2048 }
+    ensures { let p = part.now in out.new.items
+        ≡ out.old.items
+        ++ data_of (upload p.image p.len p.off (option_map (λ s. s.now) p.sha) p.bytes.now) }
 {
-    let image = unless_default(part.image, 0);
-    let pairs = count_number(image) + count_number(part.len) + 1 + count_bytes(part.sha) + 1;
+    let pairs = count_number(part.image) + count_number(part.len) + 1 + count_bytes(part.sha) + 1;
     put_map(out, pairs);
-    put_number(out, "image", image);
+    put_number(out, "image", part.image);
     put_number(out, "len", part.len);
     put_number(out, "off", Some(part.off));
     put_bytes(out, "sha", part.sha);
@@ -180,7 +190,8 @@ fn write_file_write(
     len: Option<u32>,
     name: &str,
 )
-    requires { array_vec_len out.old + length (data_of (file_write off bytes.now len name.now)) ≤ 2048 }
+    requires { array_vec_len out.old + length (data_of (file_write off bytes.now len name.now))
+        ≤ 2048 }
     ensures { out.new.items ≡ out.old.items ++ data_of (file_write off bytes.now len name.now) }
 {
     put_map(out, 3 + count_number(len));
@@ -197,8 +208,11 @@ fn write_file_hash(
     off: u32,
     len: Option<u32>,
 )
-    requires { array_vec_len out.old + length (data_of (file_hash name.now (option_map (λ k. k.now) kind) off len)) ≤ 2048 }
-    ensures { out.new.items ≡ out.old.items ++ data_of (file_hash name.now (option_map (λ k. k.now) kind.entry) off len) }
+    requires { array_vec_len out.old
+        + length (data_of (file_hash name.now (option_map (λ k. k.now) kind) off len))
+        ≤ 2048 }
+    ensures { out.new.items
+        ≡ out.old.items ++ data_of (file_hash name.now (option_map (λ k. k.now) kind.entry) off len) }
 {
     put_map(out, 2 + count_words(kind) + count_number(len));
     put_words(out, "name", Some(name));

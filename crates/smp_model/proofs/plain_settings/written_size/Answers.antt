@@ -1,7 +1,0 @@
-use Rattle.std.proofs.Common.{arith}
-use Rattle.std.proofs.lemmas.Grind.{common_steps}
-use Rattle.smp_model.proofs.StoredSize.{length-stored_form}
-use Rattle.smp_model.proofs.plain_settings.written_size.Goals as goal
-
-pub returns : goal.returns
-returns c = grind (arith, common_steps, length-stored_form c.args.name.now c.args.val.now c.args.settings.now)

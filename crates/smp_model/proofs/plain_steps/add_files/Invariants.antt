@@ -1,6 +1,0 @@
-use Rattle.std.proofs.Common.{◌≡◌, ◌++◌, filter, take}
-use Rattle.smp_model.specs.Plain.{is_kept}
-use Rattle.smp_model.proofs.plain_steps.add_files.Given as goal
-
-abbrev pub invariant-loop-file : goal.invariant-loop-file
-invariant-loop-file l = l.into ≡ l.initial.into ++ filter (λ x. is_kept l.kept x.name) (take l.file-index l.files)

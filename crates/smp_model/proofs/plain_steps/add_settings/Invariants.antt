@@ -1,6 +1,0 @@
-use Rattle.std.proofs.Common.{◌≡◌, ◌++◌, filter, take}
-use Rattle.smp_model.specs.Plain.{is_kept}
-use Rattle.smp_model.proofs.plain_steps.add_settings.Given as goal
-
-abbrev pub invariant-loop-setting : goal.invariant-loop-setting
-invariant-loop-setting l = l.into ≡ l.initial.into ++ filter (λ x. is_kept l.kept x.name) (take l.setting-index l.settings)
