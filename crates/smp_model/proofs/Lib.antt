@@ -1,5 +1,5 @@
-pub mod PacketAgain
-pub mod Keys
+mod PacketAgain
+mod PlainMaps
 pub mod Tlvs
 pub mod Made
 mod Cases

@@ -26,3 +26,4 @@ pub mod Due
 pub mod ImageFaults
 pub mod FlashUse
 pub mod Faults
+pub mod Keys

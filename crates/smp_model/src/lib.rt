@@ -19,6 +19,7 @@ mod image_laws;
 mod laws;
 pub mod memory;
 mod packet;
+mod packet_laws;
 pub mod pair;
 mod reply;
 mod request;
@@ -29,7 +30,7 @@ pub use device::{AbstractDevice, Counters, Side, Sizes, StoredFile, StoredFiles,
 pub use image::{ImageFault, ImageHeader, ImageInfo, make_image};
 pub use image_laws::{
     first_faults_are_read, good_images_are_right, images_are_read, images_end, images_lie_within,
-    made_images_are_good,
+    made_images_are_good, tlvs_are_read_in_order,
 };
 pub use laws::{
     a_foreign_part_stores_nothing, a_pending_slot_is_good, a_pending_slot_stays, a_start_forgets,
@@ -43,6 +44,7 @@ pub use laws::{
     unnamed_images_are_found,
 };
 pub use packet::set_length;
+pub use packet_laws::{keys_are_texts, packets_are_read_back, plain_maps_are_written};
 pub use reply::{Reply, SidePair, SlotEntry, Version};
 pub use request::{Request, UploadPart};
 pub use setting::{Pairs, Setting};

@@ -15,7 +15,8 @@ use Rattle.smp_request.specs.Held.{CanHold, CanHoldEach}
 use Rattle.smp_request.proofs.Again.{number_again, words_again, bytes_again}
 use Rattle.smp_request.proofs.Rows.{named_again, sound_keys, is_small}
 use Rattle.smp_request.proofs.FieldsAgain.{AreFields, fields_back, written_has}
-use Rattle.smp_model.proofs.PacketAgain.{packet_again}
+use Rattle.smp_model.specs.Keys.{KeysAreTexts}
+use Rattle.smp_model.specs.Packets.{PacketsAreReadBack}
 
 -- each request is made of its fields
 made_back : (m : Meant) → made (name_of m) (fields_of m) ≡ Some m
@@ -91,20 +92,20 @@ are_fields (file_hash name kind off len) can =
 are_fields file_types can = tt
 are_fields file_close can = tt
 
-pub means_again : ShortestIsRead → (version sequence : ℕ) (m : Meant) → version ≤ 1 → CanHoldEach (fields_of m) → meaning (request_message version sequence m) ≡ Ok m
-means_again is_read version sequence m le can =
+pub means_again : ShortestIsRead → KeysAreTexts → (version sequence : ℕ) (m : Meant) → version ≤ 1 → CanHoldEach (fields_of m) → meaning (request_message version sequence m) ≡ Ok m
+means_again is_read texts version sequence m le can =
     let n = name_of m in
     let ks = (table n).keys in
     let fs = fields_of m in
     let recent : nat_lt version 2 ≡ true = grind (arith, nat_tests) in
     let small = is_small n in
-    let read : map_of (shortest (request_value m)) ≡ Ok (written_pairs ks fs) = is_read (written_pairs ks fs) (written_has ks fs (sound_keys n) small.keys can) in
+    let read : map_of (shortest (request_value m)) ≡ Ok (written_pairs ks fs) = is_read (written_pairs ks fs) (written_has texts ks fs (sound_keys n) small.keys can) in
     let back : fields ks (written_pairs ks fs) ≡ Ok fs = fields_back ks fs (sound_keys n) (are_fields m can) in
     let found_row : by_row (name_at (table n).group (table n).command (operation_of (table n).operations)) (shortest (request_value m)) ≡ by_row (Some n) (shortest (request_value m)) = ap (λ o. by_row o (shortest (request_value m))) (named_again n) in
     let filled_by : by_row (Some n) (shortest (request_value m)) ≡ Ok m = rw (read, back, made_back m) refl in
     rw recent (found_row ∙ filled_by)
 
-pub is_packet : (version sequence : ℕ) (m : Meant) → version ≤ 1 → length (request_bytes version sequence m) ≤ 2048 → packet (request_bytes version sequence m) ≡ Some (request_message version sequence m)
-is_packet version sequence m le fits =
+pub is_packet : PacketsAreReadBack → (version sequence : ℕ) (m : Meant) → version ≤ 1 → length (request_bytes version sequence m) ≤ 2048 → packet (request_bytes version sequence m) ≡ Some (request_message version sequence m)
+is_packet packet_again version sequence m le fits =
     let small = is_small (name_of m) in
     packet_again (request_message version sequence m) (omega arith) (omega arith) (omega arith) (omega arith)

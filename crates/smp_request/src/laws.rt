@@ -11,7 +11,7 @@ ghost use Rattle.smp_request.specs.Room.{strings_of};
 
 use smp_cbor::shortest_is_read;
 use smp_model::memory::{bytes_are_counted, texts_are_utf8};
-use smp_model::{Request, UploadPart};
+use smp_model::{Request, UploadPart, keys_are_texts, packets_are_read_back};
 
 /// What [`write_request`](crate::write_request) writes is a packet, and that packet means the request, whatever its
 /// version, its sequence and the request are. The call does nothing: it stands for the law.
@@ -25,6 +25,8 @@ pub fn reads_back(version: u8, sequence: u8, request: &Request<'_>)
 {
     held(request);
     shortest_is_read();
+    keys_are_texts();
+    packets_are_read_back();
 }
 
 /// The packet of a request has at most 70 bytes beside those of its texts and byte strings, in any version and with any

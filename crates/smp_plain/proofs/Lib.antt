@@ -1,0 +1,5 @@
+pub mod StoredSize
+pub mod Copies
+pub mod Echoes
+pub mod Lifting
+pub mod SoundDevices

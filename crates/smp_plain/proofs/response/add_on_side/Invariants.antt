@@ -1,0 +1,6 @@
+use Rattle.std.specs.Prelude.{◌≡◌, ◌++◌, take}
+use Rattle.smp_plain.specs.Plain.{lifted}
+use Rattle.smp_plain.proofs.response.add_on_side.Given as goal
+
+abbrev pub invariant-loop-step : goal.invariant-loop-step
+invariant-loop-step l = l.all.items ≡ l.initial.all.items ++ lifted l.image (take l.step-index l.steps)
