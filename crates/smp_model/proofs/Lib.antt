@@ -27,6 +27,7 @@ mod HandledDevices
 mod Keeping
 mod DropsDue
 mod FlashUses
+mod EarlyTargets
 mod StoredForms
 mod NamedThings
 pub mod ImageAreas

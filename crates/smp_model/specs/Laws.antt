@@ -207,3 +207,9 @@ abbrev pub IsNoSave : Step → Type 0
 IsNoSave (OnSide image step) = Unit {0}
 IsNoSave Save = ⊥
 IsNoSave (Run change) = Unit {0}
+
+-- a step that chooses an upload, or appends to one
+abbrev pub GoesToUpload : Step → Type 0
+GoesToUpload (OnSide image (Choose a)) = Unit {0}
+GoesToUpload (OnSide image (Append bytes)) = Unit {0}
+GoesToUpload step = ⊥

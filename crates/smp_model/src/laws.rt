@@ -17,7 +17,7 @@ ghost use Rattle.smp_model.specs.Faults.{IsHandledWithFault};
 ghost use Rattle.smp_model.specs.FlashUse.{uses_images, uses_saved};
 ghost use Rattle.smp_model.specs.Handled.{Handled, handled};
 ghost use Rattle.smp_model.specs.ImageGroup.{confirms_on, holds, is_offset, marks_on, pair_of, refuses_image, runs, sets_hash, side_of, uploads_to};
-ghost use Rattle.smp_model.specs.Laws.{EachSide, EachStep, GoodUpload, IsAboutImages, IsApart, IsDropDue, IsDue, IsNoSave, IsOfFirst, IsOffSides, IsOn, IsSound, MatchHolds, MatchTold, OnImage, PendingIsGood, Reaches, ReplyHeld, SameBesideImages, SameImages, SameUpload, SettlesAtMost, StartsWith, is_foreign};
+ghost use Rattle.smp_model.specs.Laws.{EachSide, EachStep, GoesToUpload, GoodUpload, IsAboutImages, IsApart, IsDropDue, IsDue, IsNoSave, IsOfFirst, IsOffSides, IsOn, IsSound, MatchHolds, MatchTold, OnImage, PendingIsGood, Reaches, ReplyHeld, SameBesideImages, SameImages, SameUpload, SettlesAtMost, StartsWith, is_foreign};
 ghost use Rattle.smp_model.specs.Meaning.{meaning};
 ghost use Rattle.smp_model.specs.Meant.{Meant, erase, image_list, image_set, save, upload};
 ghost use Rattle.smp_model.specs.Response.{reply_alone};
@@ -249,14 +249,20 @@ pub fn unnamed_images_are_found()
         ≡ does sizes d (upload (Some d.target) len off None part) }
 {}
 
-/// The target of parts is the image of the last start that was answered with an offset. A refusal does not move it, and no
-/// other request does.
+/// The target of parts is the image of the last start that was answered with an offset. It moves before such a start chooses
+/// an upload or appends to one, so it does wherever that was done. A refusal does not move it, and no other request does.
 pub fn the_target_moves_at_starts()
     ensures moved { (sizes : FlashSizes) (d : Device) (image len : Option ℕ) (sha : Option (List ℕ))
         (part : List ℕ)
         → IsTrue (is_offset (does sizes d (upload image len 0 sha part)).reply)
         → (applied (does sizes d (upload image len 0 sha part)).steps d).target
         ≡ side_of d.target image 0 sha }
+    ensures early { (sizes : FlashSizes) (d : Device) (image len : Option ℕ) (sha : Option (List ℕ))
+        (part : List ℕ) (front : List Step) (step : Step) (rest : List Step)
+        → IsTrue (is_offset (does sizes d (upload image len 0 sha part)).reply)
+        → (does sizes d (upload image len 0 sha part)).steps ≡ front ++ step ∷ rest
+        → GoesToUpload step
+        → (applied front d).target ≡ side_of d.target image 0 sha }
     ensures refused { (sizes : FlashSizes) (d e : Device) (m : Meant)
         → IsTrue (is_error (does sizes d m).reply) → Part d (does sizes d m).steps e
         → e.target ≡ d.target }
