@@ -2,6 +2,7 @@
 use Rattle.std.specs.Prelude.{Bool, ◌==◌, ◌&&◌, ℕ, ◌+◌, ◌*◌, ◌/◌, ◌%◌, nat_le, if◌then◌else◌, List, [], ◌∷◌, ◌++◌, length, drop, slice_index, Option, Some, None}
 use Rattle.std.specs.Int.{w16, from_be_bytes, to_be_bytes}
 use Rattle.smp_header.specs.declared.Packet.{Packet}
+use Rattle.smp_header.specs.declared.TheConstants.{HEADER, LARGEST_PACKET}
 
 -- A packet as plain values, wherever its data lies in memory.
 pub record Message : Type 0 where
@@ -27,9 +28,9 @@ message_of p = record {
 abbrev pub number_at : List ℕ → ℕ → ℕ
 number_at b i = from_be_bytes w16 (slice_index b i ∷ slice_index b (i + 1) ∷ [])
 
--- 8 to 2048 bytes, as many as the header states.
+-- From a header alone to the largest packet, and as many bytes as the header states.
 abbrev pub is_packet : List ℕ → Bool
-is_packet b = nat_le 8 (length b) && nat_le (length b) 2048 && (length b == 8 + number_at b 2)
+is_packet b = nat_le HEADER (length b) && nat_le (length b) LARGEST_PACKET && (length b == HEADER + number_at b 2)
 
 -- The packet that the bytes are.
 abbrev pub packet : List ℕ → Option Message
@@ -39,7 +40,7 @@ packet b = if is_packet b then Some record {
   group = number_at b 4;
   sequence = slice_index b 6;
   command = slice_index b 7;
-  bytes = drop 8 b;
+  bytes = drop HEADER b;
 } else None
 
 -- The eight bytes of a header, with the reserved bits and the flags 0.

@@ -17,6 +17,7 @@
 mod reading;
 mod writing;
 
+use arrayvec::ArrayVec;
 pub use reading::read_packet;
 pub use writing::write_header;
 
@@ -24,7 +25,10 @@ pub use writing::write_header;
 pub const HEADER: usize = 8;
 
 /// The most bytes of a packet, with its header.
-pub const LARGEST: usize = 2048;
+pub const LARGEST_PACKET: usize = 2048;
+
+/// A packet that is being built: it has room for the largest.
+pub type PacketBuffer = ArrayVec<u8, LARGEST_PACKET>;
 
 /// A packet whose data is lent from the bytes that it was read from.
 #[derive(Clone, Copy, Debug)]

@@ -3,11 +3,11 @@ ghost use Rattle.std.specs.Prelude.{◌≡◌, ◌+◌, ◌≤◌, ◌++◌};
 ghost use Rattle.arrayvec.specs.ArrayVec.{array_vec_len};
 ghost use Rattle.smp_header.specs.Message.{header};
 
-use arrayvec::ArrayVec;
+use crate::{HEADER, LARGEST_PACKET, PacketBuffer};
 
 /// Appends the eight bytes of a header. `length` is the number of bytes of the data that follows.
 pub fn write_header(
-    out: &mut ArrayVec<u8, 2048>,
+    out: &mut PacketBuffer,
     version: u8,
     op: u8,
     group: u16,
@@ -15,7 +15,7 @@ pub fn write_header(
     command: u8,
     length: u16,
 )
-    requires room { array_vec_len out.old + 8 ≤ 2048 }
+    requires room { array_vec_len out.old + HEADER ≤ LARGEST_PACKET }
     requires version { version ≤ 3 }
     requires op { op ≤ 7 }
     ensures { out.new.items ≡ out.old.items ++ header version op group sequence command length }
