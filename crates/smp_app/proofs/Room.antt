@@ -9,6 +9,7 @@ use Rattle.smp_model.specs.declared.device.Counters.{Counters}
 use Rattle.smp_model.specs.Counters.{os_reply, stat_group_reply}
 use Rattle.smp_request.specs.Room.{HasRoom}
 use Rattle.smp_app.specs.Device.{Fitting}
+use Rattle.smp_header.specs.declared.TheConstants.{HEADER, LARGEST_PACKET}
 
 short : {s : Said} (r : Said) → Some r ≡ Some s → Fitting r → Fitting s
 short {s} r e fits = let same : r ≡ s = cc in subst Fitting same fits
@@ -20,7 +21,7 @@ statistics c name = by_name (bytes_eq name (codes "smp")) refl
     by_name true is = rw is record { room = omega arith; sendable = tt }
     by_name false is = rw is record { room = omega arith; sendable = refl }
 
-pub os_fits : (c : Counters) (m : Meant) (s : Said) (n : ℕ) → os_reply c m ≡ Some s → HasRoom m n → n + 8 ≤ 2048 → Fitting s
+pub os_fits : (c : Counters) (m : Meant) (s : Said) (n : ℕ) → os_reply c m ≡ Some s → HasRoom m n → n + HEADER ≤ LARGEST_PACKET → Fitting s
 os_fits c (echo t) s n e room fits = short (said.echo t) e record { room = omega arith; sendable = tt }
 os_fits c reset s n e room fits = short said.empty e record { room = omega arith; sendable = tt }
 os_fits c parameters s n e room fits = short said.parameters e record { room = omega arith; sendable = tt }

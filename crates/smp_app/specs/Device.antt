@@ -9,6 +9,7 @@ use Rattle.smp_model.specs.Said.{Said, smp_error, is_error, reply_bytes}
 use Rattle.smp_model.specs.declared.device.Counters.{Counters}
 use Rattle.smp_model.specs.Counters.{after_reply, after_drop, os_reply}
 use Rattle.smp_model.specs.declared.error.TheConstants.{NOT_SUPPORTED}
+use Rattle.smp_header.specs.declared.TheConstants.{LARGEST_PACKET}
 pub use Rattle.smp_model.specs.Handled.{is_request}
 
 -- The reply to a request, with the counters before it. What is not built yet is not supported: a reset, and the groups
@@ -46,5 +47,5 @@ handled counters bytes = handled_packet counters (packet bytes)
 
 -- A reply that can be sent, and has room in a packet.
 pub record Fitting (said : Said) : Type 0 where
-  pub room : room_of said ≤ 2048
+  pub room : room_of said ≤ LARGEST_PACKET
   pub sendable : IsSendable said

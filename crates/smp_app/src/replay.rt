@@ -16,6 +16,7 @@ use crate::device::handle;
 use arrayvec::ArrayVec;
 use smp_edge::{Block, Failed, Octets, Sink};
 use smp_groups::Counts;
+use smp_header::PacketBuffer;
 use std::alloc::Global;
 
 /// The transcript is put out in pieces of at least so many bytes.
@@ -30,7 +31,7 @@ const LAST_LINE: &[u8; 29] = b"end sent 0 answered 0 done 0\n";
 #[derive(Drop)]
 struct Replay {
     counts: Counts,
-    reply: ArrayVec<u8, 2048>,
+    reply: PacketBuffer,
     line: [u8; 4101],
 }
 

@@ -13,6 +13,7 @@ use Rattle.smp_model.specs.declared.reply.Reply.TheVariants as replies
 use Rattle.smp_model.specs.Errors.{version_1_of}
 use Rattle.smp_model.specs.Packets.{packet_bytes}
 use Rattle.smp_model.specs.declared.error.TheConstants.{UNKNOWN}
+use Rattle.smp_header.specs.declared.TheConstants.{LARGEST_PACKET}
 
 pub data Said : Type 0 where
   smp_error : (number : ℕ) → Said
@@ -101,7 +102,7 @@ entries_of version (smp_error n) = (codes "rc", unsigned n) ∷ []
 entries_of version (group_error group n) = group_error_entries version group n
 entries_of version empty = []
 entries_of version (echo t) = (codes "r", text t) ∷ []
-entries_of version parameters = (codes "buf_size", unsigned 2048) ∷ (codes "buf_count", unsigned 1) ∷ []
+entries_of version parameters = (codes "buf_size", unsigned LARGEST_PACKET) ∷ (codes "buf_count", unsigned 1) ∷ []
 entries_of version (stat_group handled dropped errors) =
     (codes "name", text (codes "smp"))
     ∷ (

@@ -6,10 +6,11 @@ ghost use Rattle.smp_cbor.specs.Shortest.{short_head, short_text, short_octets, 
 
 use arrayvec::ArrayVec;
 use smp_cbor::{put_bool, put_octets, put_text, put_unsigned};
+use smp_header::{LARGEST_PACKET, PacketBuffer};
 
 /// A key and a whole number.
-pub fn put_number(out: &mut ArrayVec<u8, 2048>, key: &str, value: u32)
-    requires { array_vec_len out.old + length (short_text key.now ++ short_head 0 value) ≤ 2048 }
+pub fn put_number(out: &mut PacketBuffer, key: &str, value: u32)
+    requires { array_vec_len out.old + length (short_text key.now ++ short_head 0 value) ≤ LARGEST_PACKET }
     ensures { out.new.items ≡ out.old.items ++ (short_text key.now ++ short_head 0 value) }
 {
     put_text(out, key);
@@ -17,8 +18,8 @@ pub fn put_number(out: &mut ArrayVec<u8, 2048>, key: &str, value: u32)
 }
 
 /// A key and a string of bytes.
-pub fn put_bytes(out: &mut ArrayVec<u8, 2048>, key: &str, value: &[u8])
-    requires { array_vec_len out.old + length (short_text key.now ++ short_octets value.now) ≤ 2048 }
+pub fn put_bytes(out: &mut PacketBuffer, key: &str, value: &[u8])
+    requires { array_vec_len out.old + length (short_text key.now ++ short_octets value.now) ≤ LARGEST_PACKET }
     ensures { out.new.items ≡ out.old.items ++ (short_text key.now ++ short_octets value.now) }
 {
     put_text(out, key);
@@ -26,8 +27,8 @@ pub fn put_bytes(out: &mut ArrayVec<u8, 2048>, key: &str, value: &[u8])
 }
 
 /// A key and a text.
-pub fn put_words(out: &mut ArrayVec<u8, 2048>, key: &str, value: &str)
-    requires { array_vec_len out.old + length (short_text key.now ++ short_text value.now) ≤ 2048 }
+pub fn put_words(out: &mut PacketBuffer, key: &str, value: &str)
+    requires { array_vec_len out.old + length (short_text key.now ++ short_text value.now) ≤ LARGEST_PACKET }
     ensures { out.new.items ≡ out.old.items ++ (short_text key.now ++ short_text value.now) }
 {
     put_text(out, key);
@@ -35,8 +36,8 @@ pub fn put_words(out: &mut ArrayVec<u8, 2048>, key: &str, value: &str)
 }
 
 /// A key and a truth value.
-pub fn put_truth(out: &mut ArrayVec<u8, 2048>, key: &str, value: bool)
-    requires { array_vec_len out.old + length (short_text key.now ++ short_bool value) ≤ 2048 }
+pub fn put_truth(out: &mut PacketBuffer, key: &str, value: bool)
+    requires { array_vec_len out.old + length (short_text key.now ++ short_bool value) ≤ LARGEST_PACKET }
     ensures { out.new.items ≡ out.old.items ++ (short_text key.now ++ short_bool value) }
 {
     put_text(out, key);

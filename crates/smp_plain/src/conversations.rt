@@ -12,9 +12,8 @@ mod packets;
 mod uploads;
 
 use crate::{device_after, is_sound, response_to};
-use arrayvec::ArrayVec;
 use smp_edge::Octets;
-use smp_header::Packet;
+use smp_header::{LARGEST_PACKET, Packet, PacketBuffer};
 use smp_model::{
     AbstractDevice, Counters, Pairs, Reply, Request, Side, Sizes, StoredFiles, Version, make_image,
 };
@@ -86,7 +85,7 @@ fn is_known(group: u16, number: u32) -> bool
 /// The reply can be sent, and has room in a packet.
 fn is_writable(reply: &Reply<'_>) -> bool
     ensures sendable { IsTrue result → IsSendable (said_of reply.now) }
-    ensures room { IsTrue result → room_of (said_of reply.now) ≤ 2048 }
+    ensures room { IsTrue result → room_of (said_of reply.now) ≤ LARGEST_PACKET }
 {
     match reply {
         Reply::GroupError { group, number } => is_known(*group, *number),
@@ -116,9 +115,9 @@ fn head_of(request: &Request<'_>) -> (u8, u16, u8)
 }
 
 /// The packet that answers the request in version 2.
-fn written(sequence: u8, request: &Request<'_>, reply: &Reply<'_>) -> ArrayVec<u8, 2048>
+fn written(sequence: u8, request: &Request<'_>, reply: &Reply<'_>) -> PacketBuffer
     requires sendable { IsSendable (said_of reply.now) }
-    requires room { room_of (said_of reply.now) ≤ 2048 }
+    requires room { room_of (said_of reply.now) ≤ LARGEST_PACKET }
 {
     let (op, group, command) = head_of(request);
     let to = Packet {
@@ -129,7 +128,7 @@ fn written(sequence: u8, request: &Request<'_>, reply: &Reply<'_>) -> ArrayVec<u
         command,
         bytes: b"",
     };
-    let mut out = ArrayVec::<u8, 2048>::new();
+    let mut out = PacketBuffer::new();
     fits_within(reply);
     write_reply(&mut out, &to, reply);
     out

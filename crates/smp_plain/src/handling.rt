@@ -15,7 +15,7 @@ use crate::devices::{device_after, dropped, started};
 use crate::requests::response_to;
 use crate::response::reply_alone;
 use arrayvec::ArrayVec;
-use smp_header::{Packet, read_packet};
+use smp_header::{HEADER, LARGEST_PACKET, Packet, PacketBuffer, read_packet};
 use smp_model::{AbstractDevice, Reply, Request, Sizes};
 use smp_reply::{device_replies_are_sendable, device_replies_fit, fits_within, write_reply};
 use smp_request::request_of;
@@ -24,16 +24,16 @@ use std::alloc::{AllocError, Global};
 /// What came of a packet: the packet of the reply, or none where it was dropped, and the device then.
 #[derive(Debug, Drop)]
 pub struct PlainHandled {
-    pub reply: Option<ArrayVec<u8, 2048>>,
+    pub reply: Option<PacketBuffer>,
     pub device: AbstractDevice,
 }
 
 /// The packet of a reply.
-fn written(to: &Packet<'_>, reply: &Reply<'_>) -> ArrayVec<u8, 2048>
+fn written(to: &Packet<'_>, reply: &Reply<'_>) -> PacketBuffer
     requires operation { (to.now.op ≡ 0) ⊎ (to.now.op ≡ 2) }
     requires version { to.now.version ≤ 3 }
     requires sendable { IsSendable (said_of reply.now) }
-    requires room { room_of (said_of reply.now) ≤ 2048 }
+    requires room { room_of (said_of reply.now) ≤ LARGEST_PACKET }
     ensures { result.items ≡ reply_bytes (message_of to.now) (said_of reply.now) }
 {
     fits_within(reply);
@@ -136,7 +136,7 @@ fn answered(
     requires sound { IsSound device.now }
     requires operation { (packet.now.op ≡ 0) ⊎ (packet.now.op ≡ 2) }
     requires version { packet.now.version ≤ 3 }
-    requires fits { length packet.now.bytes.now + 8 ≤ 2048 }
+    requires fits { length packet.now.bytes.now + HEADER ≤ LARGEST_PACKET }
     ensures { IfOk result (λ h. handled_of h ≡ answered sizes.now device.now (message_of packet.now)) }
 {
     match request_of(packet) {

@@ -39,6 +39,7 @@ use Rattle.smp_model.specs.Uploads.{differs, is_tagged_by, kept, is_resumed_by}
 use Rattle.smp_reply.specs.Room.{room_of, EchoFits}
 use Rattle.smp_reply.specs.Sendable.{IsSendable}
 use Rattle.smp_model.specs.declared.error.TheConstants.{INVALID_DIGEST, IMAGE_TOO_LARGE, INVALID_HEADER, WRONG_MAGIC, HASH_NOT_FOUND, INVALID_SLOT, PAST_UPLOAD_END, ALREADY_PENDING, SETTING_NAME_LENGTH, FILE_NAME_LENGTH, PAST_FILE_END}
+use Rattle.smp_header.specs.declared.TheConstants.{LARGEST_PACKET}
 
 -- An error of the table, or a reply with no text or bytes of its own. An echo, a value and a part of a file are looked at
 -- apart.
@@ -340,26 +341,26 @@ few_listed pair (Some other) =
     let more = few_slots (Some 1) other.first other.second in
     omega (arith, few, more, length-append (slots_of (Some 0) pair) (slots_of (Some 1) other))
 
-ordinary_fits : (reply : Said) → IsOrdinary reply → room_of reply ≤ 2048
+ordinary_fits : (reply : Said) → IsOrdinary reply → room_of reply ≤ LARGEST_PACKET
 ordinary_fits (said.images pair other) h = let few = few_listed pair other in omega (arith, few)
 ordinary_fits (said.echo t) h = absurd h
 ordinary_fits (said.setting val) h = absurd h
 ordinary_fits (said.file_part off len part) h = absurd h
 ordinary_fits reply h = omega arith
 
-setting_fits : (running : List Setting) → AreShort running → (reply : Said) → ReadsSetting running reply → room_of reply ≤ 2048
+setting_fits : (running : List Setting) → AreShort running → (reply : Said) → ReadsSetting running reply → room_of reply ≤ LARGEST_PACKET
 setting_fits running short (said.setting val) h = let few = h short in omega (arith, few)
 setting_fits running short reply h = ordinary_fits reply h
 
-file_fits : (reply : Said) → ReadsFile reply → room_of reply ≤ 2048
+file_fits : (reply : Said) → ReadsFile reply → room_of reply ≤ LARGEST_PACKET
 file_fits (said.file_part off len part) h = omega (arith, h.1)
 file_fits reply h = ordinary_fits reply h
 
-answer_fits : (running : List Setting) → AreShort running → (m : Meant) (reply : Said) → EchoFits m → Answers running m reply → room_of reply ≤ 2048
-answer_fits running short (meant.echo text) reply echo h = subst (λ r. room_of r ≤ 2048) (sym h) echo
+answer_fits : (running : List Setting) → AreShort running → (m : Meant) (reply : Said) → EchoFits m → Answers running m reply → room_of reply ≤ LARGEST_PACKET
+answer_fits running short (meant.echo text) reply echo h = subst (λ r. room_of r ≤ LARGEST_PACKET) (sym h) echo
 answer_fits running short (meant.setting_read name size) reply echo h = setting_fits running short reply h
 answer_fits running short (meant.file_read off name) reply echo h = file_fits reply h
 answer_fits running short m reply echo h = ordinary_fits reply h
 
-pub replies_fit : (sizes : Sizes) (d : AbstractDevice) (m : Meant) → AreShort d.running → EchoFits m → room_of (does sizes d m).reply ≤ 2048
+pub replies_fit : (sizes : Sizes) (d : AbstractDevice) (m : Meant) → AreShort d.running → EchoFits m → room_of (does sizes d m).reply ≤ LARGEST_PACKET
 replies_fit sizes d m short echo = answer_fits d.running short m (does sizes d m).reply echo (replies_answer sizes d m)

@@ -4,6 +4,7 @@ use Rattle.smp_cbor.specs.Shortest.{short_text}
 use Rattle.smp_model.specs.Meant as meant
 use Rattle.smp_model.specs.Meant.{Meant}
 use Rattle.smp_model.specs.Said.{Said, echo, images, listed, setting, file_part}
+use Rattle.smp_header.specs.declared.TheConstants.{LARGEST_PACKET}
 
 -- an echo has as many bytes as its request had at least; what else has no text or bytes of its own is short
 abbrev pub room_of : Said → ℕ
@@ -15,5 +16,5 @@ room_of said = 200
 
 -- a packet has room for the reply, where the request is an echo
 abbrev pub EchoFits : Meant → Type 0
-EchoFits (meant.echo text) = room_of (echo text) ≤ 2048
+EchoFits (meant.echo text) = room_of (echo text) ≤ LARGEST_PACKET
 EchoFits m = Unit {0}

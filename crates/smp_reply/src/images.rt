@@ -10,6 +10,7 @@ ghost use Rattle.smp_model.specs.Said.{entry_value, images, reply_value, slots_o
 use arrayvec::{ArrayString, ArrayVec};
 use itoa::Buffer;
 use smp_cbor::{put_list, put_map, put_text};
+use smp_header::{LARGEST_PACKET, PacketBuffer};
 use smp_model::pair::{put_bytes, put_number, put_truth, put_words};
 use smp_model::{SidePair, SlotEntry, Version};
 
@@ -33,8 +34,8 @@ fn text_of(version: &Version) -> ArrayString<24>
 
 /// What is said of one slot.
 #[tactic(auto, unfolding(smp_cbor::specs::Shortest::shortest, smp_cbor::specs::Shortest::shortest_pairs))]
-fn put_entry(out: &mut ArrayVec<u8, 2048>, image: Option<u32>, entry: &SlotEntry)
-    requires { array_vec_len out.old + length (shortest (entry_value (image, entry.now))) ≤ 2048 }
+fn put_entry(out: &mut PacketBuffer, image: Option<u32>, entry: &SlotEntry)
+    requires { array_vec_len out.old + length (shortest (entry_value (image, entry.now))) ≤ LARGEST_PACKET }
     ensures { out.new.items ≡ out.old.items ++ shortest (entry_value (image, entry.now)) }
 {
     match image {
@@ -50,8 +51,8 @@ fn put_entry(out: &mut ArrayVec<u8, 2048>, image: Option<u32>, entry: &SlotEntry
 }
 
 /// The slot, and the version and the hash of its image.
-fn put_image(out: &mut ArrayVec<u8, 2048>, entry: &SlotEntry)
-    requires { array_vec_len out.old + length (named_bytes entry.now) ≤ 2048 }
+fn put_image(out: &mut PacketBuffer, entry: &SlotEntry)
+    requires { array_vec_len out.old + length (named_bytes entry.now) ≤ LARGEST_PACKET }
     ensures { out.new.items ≡ out.old.items ++ named_bytes entry.now }
 {
     put_number(out, "slot", entry.slot);
@@ -60,8 +61,8 @@ fn put_image(out: &mut ArrayVec<u8, 2048>, entry: &SlotEntry)
 }
 
 /// The first of the image's flags.
-fn put_flags(out: &mut ArrayVec<u8, 2048>, entry: &SlotEntry)
-    requires { array_vec_len out.old + length (flag_bytes entry.now) ≤ 2048 }
+fn put_flags(out: &mut PacketBuffer, entry: &SlotEntry)
+    requires { array_vec_len out.old + length (flag_bytes entry.now) ≤ LARGEST_PACKET }
     ensures { out.new.items ≡ out.old.items ++ flag_bytes entry.now }
 {
     put_truth(out, "bootable", entry.bootable);
@@ -70,8 +71,8 @@ fn put_flags(out: &mut ArrayVec<u8, 2048>, entry: &SlotEntry)
 }
 
 /// The last of them.
-fn put_last_flags(out: &mut ArrayVec<u8, 2048>, entry: &SlotEntry)
-    requires { array_vec_len out.old + length (last_flag_bytes entry.now) ≤ 2048 }
+fn put_last_flags(out: &mut PacketBuffer, entry: &SlotEntry)
+    requires { array_vec_len out.old + length (last_flag_bytes entry.now) ≤ LARGEST_PACKET }
     ensures { out.new.items ≡ out.old.items ++ last_flag_bytes entry.now }
 {
     put_truth(out, "active", entry.active);
@@ -80,10 +81,10 @@ fn put_last_flags(out: &mut ArrayVec<u8, 2048>, entry: &SlotEntry)
 
 /// The slots of an image.
 #[tactic(auto, unfolding(smp_cbor::specs::Shortest::shortest_values))]
-fn put_pair(out: &mut ArrayVec<u8, 2048>, image: Option<u32>, pair: &SidePair)
+fn put_pair(out: &mut PacketBuffer, image: Option<u32>, pair: &SidePair)
     requires { array_vec_len out.old
         + length (shortest_values (values (each entry_value (slots_of image pair.now))))
-        ≤ 2048 }
+        ≤ LARGEST_PACKET }
     ensures { out.new.items
         ≡ out.old.items ++ shortest_values (values (each entry_value (slots_of image pair.now))) }
 {
@@ -107,10 +108,10 @@ fn count_of(pair: &SidePair) -> u16
 
 /// A list with the slots of the only image.
 #[tactic(auto, unfolding(smp_cbor::specs::Shortest::shortest))]
-fn put_one(out: &mut ArrayVec<u8, 2048>, pair: &SidePair)
+fn put_one(out: &mut PacketBuffer, pair: &SidePair)
     requires { array_vec_len out.old
         + length (shortest (list (values (each entry_value (slots_of None pair.now)))))
-        ≤ 2048 }
+        ≤ LARGEST_PACKET }
     ensures { out.new.items
         ≡ out.old.items ++ shortest (list (values (each entry_value (slots_of None pair.now)))) }
 {
@@ -120,7 +121,7 @@ fn put_one(out: &mut ArrayVec<u8, 2048>, pair: &SidePair)
 
 /// A list with the slots of two images.
 #[tactic(auto, unfolding(smp_cbor::specs::Shortest::shortest), using(crate::proofs::Lists::two_laid, crate::proofs::Lists::two_counted))]
-fn put_two(out: &mut ArrayVec<u8, 2048>, pair: &SidePair, other: &SidePair)
+fn put_two(out: &mut PacketBuffer, pair: &SidePair, other: &SidePair)
     requires { array_vec_len out.old
         + length
         (shortest
@@ -128,7 +129,7 @@ fn put_two(out: &mut ArrayVec<u8, 2048>, pair: &SidePair, other: &SidePair)
         (values
         (each entry_value
         (slots_of (Some 0) pair.now ++ slots_of (Some 1) other.now)))))
-        ≤ 2048 }
+        ≤ LARGEST_PACKET }
     ensures { out.new.items
         ≡ out.old.items
         ++ shortest
@@ -144,9 +145,9 @@ fn put_two(out: &mut ArrayVec<u8, 2048>, pair: &SidePair, other: &SidePair)
 
 /// `{"images": list}`, with an entry for each slot.
 #[tactic(auto, unfolding(smp_cbor::specs::Shortest::shortest, smp_cbor::specs::Shortest::shortest_pairs))]
-pub fn put_images(out: &mut ArrayVec<u8, 2048>, pair: &SidePair, other: &Option<SidePair>)
+pub fn put_images(out: &mut PacketBuffer, pair: &SidePair, other: &Option<SidePair>)
     requires { array_vec_len out.old + length (shortest (reply_value 1 (images pair.now other.now)))
-        ≤ 2048 }
+        ≤ LARGEST_PACKET }
     ensures { out.new.items ≡ out.old.items ++ shortest (reply_value 1 (images pair.now other.now)) }
 {
     put_map(out, 1);

@@ -16,7 +16,7 @@ ghost use Rattle.smp_reply.specs.Told.{told};
 
 use crate::answer::Asked;
 use smp_cbor::shortest_is_read;
-use smp_header::Packet;
+use smp_header::{LARGEST_PACKET, Packet};
 use smp_model::memory::{bytes_are_counted, hashes_have_32_bytes, texts_are_utf8};
 use smp_model::{
     Reply, SidePair, SlotEntry, Version, keys_are_texts, plain_maps_are_written,
@@ -28,7 +28,7 @@ pub fn reads_back(to: &Packet<'_>, reply: &Reply<'_>, asked: Asked)
     requires operation { (to.now.op ≡ 0) ⊎ (to.now.op ≡ 2) }
     requires version { to.now.version ≤ 3 }
     requires sendable { IsSendable (said_of reply.now) }
-    requires fits { length (reply_bytes (message_of to.now) (said_of reply.now)) ≤ 2048 }
+    requires fits { length (reply_bytes (message_of to.now) (said_of reply.now)) ≤ LARGEST_PACKET }
     ensures is_packet { packet (reply_bytes (message_of to.now) (said_of reply.now))
         ≡ Some (reply_message (message_of to.now) (said_of reply.now)) }
     ensures answer { told asked (reply_message (message_of to.now) (said_of reply.now)).bytes
@@ -63,7 +63,7 @@ pub fn device_replies_are_sendable()
 pub fn device_replies_fit()
     ensures { (sizes : FlashSizes) (device : Device) (request : Meant)
         → All (λ s. length s.val ≤ 128) device.running → EchoFits request
-        → room_of (does sizes device request).reply ≤ 2048 }
+        → room_of (does sizes device request).reply ≤ LARGEST_PACKET }
 {}
 
 /// The parts of a reply are as their types say.

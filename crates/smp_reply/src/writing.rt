@@ -13,7 +13,7 @@ use crate::errors::version_1_number;
 use crate::images::put_images;
 use arrayvec::ArrayVec;
 use smp_cbor::{put_list, put_map, put_text};
-use smp_header::{Packet, write_header};
+use smp_header::{LARGEST_PACKET, Packet, PacketBuffer, write_header};
 use smp_model::pair::{put_bytes, put_number, put_truth, put_words};
 use smp_model::{Reply, set_length};
 
@@ -22,12 +22,12 @@ use smp_model::{Reply, set_length};
 /// with 1.
 ///
 /// An error of a group has to be in the table of group errors, and a part of a file has its length exactly at offset 0.
-pub fn write_reply(out: &mut ArrayVec<u8, 2048>, to: &Packet<'_>, reply: &Reply<'_>)
+pub fn write_reply(out: &mut PacketBuffer, to: &Packet<'_>, reply: &Reply<'_>)
     requires empty { array_vec_len out.old ≡ 0 }
     requires operation { (to.now.op ≡ 0) ⊎ (to.now.op ≡ 2) }
     requires version { to.now.version ≤ 3 }
     requires sendable { IsSendable (said_of reply.now) }
-    requires fits { length (reply_bytes (message_of to.now) (said_of reply.now)) ≤ 2048 }
+    requires fits { length (reply_bytes (message_of to.now) (said_of reply.now)) ≤ LARGEST_PACKET }
     ensures { out.new.items ≡ reply_bytes (message_of to.now) (said_of reply.now) }
 {
     let version = to.version.min(1);
@@ -46,9 +46,9 @@ pub fn write_reply(out: &mut ArrayVec<u8, 2048>, to: &Packet<'_>, reply: &Reply<
 
 /// The data of a reply, by the version bits that it is written with.
 #[tactic(auto, unfolding(smp_cbor::specs::Shortest::shortest, smp_cbor::specs::Shortest::shortest_pairs, smp_cbor::specs::Shortest::shortest_values))]
-fn write_data(out: &mut ArrayVec<u8, 2048>, version: u8, reply: &Reply<'_>)
+fn write_data(out: &mut PacketBuffer, version: u8, reply: &Reply<'_>)
     requires { array_vec_len out.old + length (shortest (reply_value version (said_of reply.now)))
-        ≤ 2048 }
+        ≤ LARGEST_PACKET }
     ensures { out.new.items ≡ out.old.items ++ shortest (reply_value version (said_of reply.now)) }
 {
     match reply {
@@ -89,9 +89,9 @@ fn write_data(out: &mut ArrayVec<u8, 2048>, version: u8, reply: &Reply<'_>)
 
 /// `{"rc": number}`
 #[tactic(auto, unfolding(smp_cbor::specs::Shortest::shortest, smp_cbor::specs::Shortest::shortest_pairs))]
-fn put_error(out: &mut ArrayVec<u8, 2048>, number: u32)
+fn put_error(out: &mut PacketBuffer, number: u32)
     requires { array_vec_len out.old + length (shortest (reply_value 1 (said.smp_error number)))
-        ≤ 2048 }
+        ≤ LARGEST_PACKET }
     ensures { out.new.items ≡ out.old.items ++ shortest (reply_value 1 (said.smp_error number)) }
 {
     put_map(out, 1);
@@ -100,10 +100,10 @@ fn put_error(out: &mut ArrayVec<u8, 2048>, number: u32)
 
 /// `{"err": {"group": group, "rc": number}}`, and in version 1 the one number that stands for both.
 #[tactic(auto, unfolding(smp_cbor::specs::Shortest::shortest, smp_cbor::specs::Shortest::shortest_pairs))]
-fn put_group_error(out: &mut ArrayVec<u8, 2048>, version: u8, group: u16, number: u32)
+fn put_group_error(out: &mut PacketBuffer, version: u8, group: u16, number: u32)
     requires { array_vec_len out.old
         + length (shortest (reply_value version (said.group_error group number)))
-        ≤ 2048 }
+        ≤ LARGEST_PACKET }
     ensures { out.new.items
         ≡ out.old.items ++ shortest (reply_value version (said.group_error group number)) }
 {
@@ -120,21 +120,21 @@ fn put_group_error(out: &mut ArrayVec<u8, 2048>, version: u8, group: u16, number
 
 /// `{"buf_size": 2048, "buf_count": 1}`
 #[tactic(auto, unfolding(smp_cbor::specs::Shortest::shortest, smp_cbor::specs::Shortest::shortest_pairs))]
-fn put_parameters(out: &mut ArrayVec<u8, 2048>)
-    requires { array_vec_len out.old + length (shortest (reply_value 1 said.parameters)) ≤ 2048 }
+fn put_parameters(out: &mut PacketBuffer)
+    requires { array_vec_len out.old + length (shortest (reply_value 1 said.parameters)) ≤ LARGEST_PACKET }
     ensures { out.new.items ≡ out.old.items ++ shortest (reply_value 1 said.parameters) }
 {
     put_map(out, 2);
-    put_number(out, "buf_size", 2048);
+    put_number(out, "buf_size", LARGEST_PACKET as u32);
     put_number(out, "buf_count", 1);
 }
 
 /// `{"name": "smp", "fields": {"handled": n, "dropped": n, "errors": n}}`
 #[tactic(auto, unfolding(smp_cbor::specs::Shortest::shortest, smp_cbor::specs::Shortest::shortest_pairs))]
-fn put_stat_group(out: &mut ArrayVec<u8, 2048>, handled: u32, dropped: u32, errors: u32)
+fn put_stat_group(out: &mut PacketBuffer, handled: u32, dropped: u32, errors: u32)
     requires { array_vec_len out.old
         + length (shortest (reply_value 1 (said.stat_group handled dropped errors)))
-        ≤ 2048 }
+        ≤ LARGEST_PACKET }
     ensures { out.new.items
         ≡ out.old.items ++ shortest (reply_value 1 (said.stat_group handled dropped errors)) }
 {
@@ -146,9 +146,9 @@ fn put_stat_group(out: &mut ArrayVec<u8, 2048>, handled: u32, dropped: u32, erro
 
 /// `{"handled": n, "dropped": n, "errors": n}`
 #[tactic(auto, unfolding(smp_cbor::specs::Shortest::shortest, smp_cbor::specs::Shortest::shortest_pairs))]
-fn put_numbers(out: &mut ArrayVec<u8, 2048>, handled: u32, dropped: u32, errors: u32)
+fn put_numbers(out: &mut PacketBuffer, handled: u32, dropped: u32, errors: u32)
     requires { array_vec_len out.old + length (shortest (numbers_value handled dropped errors))
-        ≤ 2048 }
+        ≤ LARGEST_PACKET }
     ensures { out.new.items ≡ out.old.items ++ shortest (numbers_value handled dropped errors) }
 {
     put_map(out, 3);
@@ -159,9 +159,9 @@ fn put_numbers(out: &mut ArrayVec<u8, 2048>, handled: u32, dropped: u32, errors:
 
 /// `{"off": off}`, and `match` where it is there.
 #[tactic(auto, unfolding(smp_cbor::specs::Shortest::shortest, smp_cbor::specs::Shortest::shortest_pairs))]
-fn put_offset(out: &mut ArrayVec<u8, 2048>, off: u32, matched: Option<bool>)
+fn put_offset(out: &mut PacketBuffer, off: u32, matched: Option<bool>)
     requires { array_vec_len out.old + length (shortest (reply_value 1 (said.offset off matched)))
-        ≤ 2048 }
+        ≤ LARGEST_PACKET }
     ensures { out.new.items ≡ out.old.items ++ shortest (reply_value 1 (said.offset off matched)) }
 {
     match matched {
@@ -179,10 +179,10 @@ fn put_offset(out: &mut ArrayVec<u8, 2048>, off: u32, matched: Option<bool>)
 
 /// `{"off": off, "data": bytes}`, and `len` where it is there.
 #[tactic(auto, unfolding(smp_cbor::specs::Shortest::shortest, smp_cbor::specs::Shortest::shortest_pairs))]
-fn put_file_part(out: &mut ArrayVec<u8, 2048>, off: u32, len: Option<u32>, bytes: &[u8])
+fn put_file_part(out: &mut PacketBuffer, off: u32, len: Option<u32>, bytes: &[u8])
     requires { array_vec_len out.old
         + length (shortest (reply_value 1 (said.file_part off len bytes.now)))
-        ≤ 2048 }
+        ≤ LARGEST_PACKET }
     ensures { out.new.items
         ≡ out.old.items ++ shortest (reply_value 1 (said.file_part off len bytes.now)) }
 {
@@ -196,10 +196,10 @@ fn put_file_part(out: &mut ArrayVec<u8, 2048>, off: u32, len: Option<u32>, bytes
 
 /// `{"type": "sha256", "off": off, "len": len, "output": hash}`, without an offset of 0.
 #[tactic(auto, unfolding(smp_cbor::specs::Shortest::shortest, smp_cbor::specs::Shortest::shortest_pairs))]
-fn put_file_hash(out: &mut ArrayVec<u8, 2048>, off: u32, len: u32, output: &[u8; 32])
+fn put_file_hash(out: &mut PacketBuffer, off: u32, len: u32, output: &[u8; 32])
     requires { array_vec_len out.old
         + length (shortest (reply_value 1 (said.file_hash off len output.now)))
-        ≤ 2048 }
+        ≤ LARGEST_PACKET }
     ensures { out.new.items
         ≡ out.old.items ++ shortest (reply_value 1 (said.file_hash off len output.now)) }
 {
@@ -214,8 +214,8 @@ fn put_file_hash(out: &mut ArrayVec<u8, 2048>, off: u32, len: u32, output: &[u8;
 
 /// `{"types": {"sha256": {"format": 1, "size": 32}}}`
 #[tactic(auto, unfolding(smp_cbor::specs::Shortest::shortest, smp_cbor::specs::Shortest::shortest_pairs))]
-fn put_file_types(out: &mut ArrayVec<u8, 2048>)
-    requires { array_vec_len out.old + length (shortest (reply_value 1 said.file_types)) ≤ 2048 }
+fn put_file_types(out: &mut PacketBuffer)
+    requires { array_vec_len out.old + length (shortest (reply_value 1 said.file_types)) ≤ LARGEST_PACKET }
     ensures { out.new.items ≡ out.old.items ++ shortest (reply_value 1 said.file_types) }
 {
     put_map(out, 1);
@@ -227,8 +227,8 @@ fn put_file_types(out: &mut ArrayVec<u8, 2048>)
 
 /// `{"format": 1, "size": 32}`
 #[tactic(auto, unfolding(smp_cbor::specs::Shortest::shortest, smp_cbor::specs::Shortest::shortest_pairs))]
-fn put_sha256(out: &mut ArrayVec<u8, 2048>)
-    requires { array_vec_len out.old + length (shortest sha256_value) ≤ 2048 }
+fn put_sha256(out: &mut PacketBuffer)
+    requires { array_vec_len out.old + length (shortest sha256_value) ≤ LARGEST_PACKET }
     ensures { out.new.items ≡ out.old.items ++ shortest sha256_value }
 {
     put_map(out, 2);

@@ -17,6 +17,7 @@ use Rattle.smp_request.proofs.Rows.{named_again, sound_keys, is_small}
 use Rattle.smp_request.proofs.FieldsAgain.{AreFields, fields_back, written_has}
 use Rattle.smp_model.specs.Keys.{KeysAreTexts}
 use Rattle.smp_model.specs.Packets.{PacketsAreReadBack}
+use Rattle.smp_header.specs.declared.TheConstants.{LARGEST_PACKET}
 
 -- each request is made of its fields
 made_back : (m : Meant) → made (name_of m) (fields_of m) ≡ Some m
@@ -105,7 +106,7 @@ means_again is_read texts version sequence m le can =
     let filled_by : by_row (Some n) (shortest (request_value m)) ≡ Ok m = rw (read, back, made_back m) refl in
     rw recent (found_row ∙ filled_by)
 
-pub is_packet : PacketsAreReadBack → (version sequence : ℕ) (m : Meant) → version ≤ 1 → length (request_bytes version sequence m) ≤ 2048 → packet (request_bytes version sequence m) ≡ Some (request_message version sequence m)
+pub is_packet : PacketsAreReadBack → (version sequence : ℕ) (m : Meant) → version ≤ 1 → length (request_bytes version sequence m) ≤ LARGEST_PACKET → packet (request_bytes version sequence m) ≡ Some (request_message version sequence m)
 is_packet packet_again version sequence m le fits =
     let small = is_small (name_of m) in
     packet_again (request_message version sequence m) (omega arith) (omega arith) (omega arith) (omega arith)

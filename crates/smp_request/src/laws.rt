@@ -10,6 +10,7 @@ ghost use Rattle.smp_request.specs.Held.{CanHold, CanHoldEach};
 ghost use Rattle.smp_request.specs.Room.{strings_of};
 
 use smp_cbor::shortest_is_read;
+use smp_header::LARGEST_PACKET;
 use smp_model::memory::{bytes_are_counted, texts_are_utf8};
 use smp_model::{Request, UploadPart, keys_are_texts, packets_are_read_back};
 
@@ -17,7 +18,7 @@ use smp_model::{Request, UploadPart, keys_are_texts, packets_are_read_back};
 /// version, its sequence and the request are. The call does nothing: it stands for the law.
 pub fn reads_back(version: u8, sequence: u8, request: &Request<'_>)
     requires version { version ≤ 1 }
-    requires fits { length (request_bytes version sequence (meant_of request.now)) ≤ 2048 }
+    requires fits { length (request_bytes version sequence (meant_of request.now)) ≤ LARGEST_PACKET }
     ensures is_packet { packet (request_bytes version sequence (meant_of request.now))
         ≡ Some (request_message version sequence (meant_of request.now)) }
     ensures means { meaning (request_message version sequence (meant_of request.now))

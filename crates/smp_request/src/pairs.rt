@@ -7,12 +7,13 @@ ghost use Rattle.smp_model.specs.Written.{unless_truth};
 ghost use Rattle.smp_request.specs.Parts.{pair_bytes, one_if};
 
 use arrayvec::ArrayVec;
+use smp_header::{LARGEST_PACKET, PacketBuffer};
 use smp_model::pair;
 
 /// A key and a whole number, where there is one.
-pub fn put_number(out: &mut ArrayVec<u8, 2048>, key: &str, value: Option<u32>)
+pub fn put_number(out: &mut PacketBuffer, key: &str, value: Option<u32>)
     requires { array_vec_len out.old + length (pair_bytes key.now (option_map number_field value))
-        ≤ 2048 }
+        ≤ LARGEST_PACKET }
     ensures { out.new.items ≡ out.old.items ++ pair_bytes key.now (option_map number_field value) }
 {
     if let Some(value) = value {
@@ -21,10 +22,10 @@ pub fn put_number(out: &mut ArrayVec<u8, 2048>, key: &str, value: Option<u32>)
 }
 
 /// A key and a string of bytes, where there is one.
-pub fn put_bytes(out: &mut ArrayVec<u8, 2048>, key: &str, value: Option<&[u8]>)
+pub fn put_bytes(out: &mut PacketBuffer, key: &str, value: Option<&[u8]>)
     requires { array_vec_len out.old
         + length (pair_bytes key.now (option_map bytes_field (option_map (λ b. b.now) value)))
-        ≤ 2048 }
+        ≤ LARGEST_PACKET }
     ensures { out.new.items
         ≡ out.old.items
         ++ pair_bytes key.now (option_map bytes_field (option_map (λ b. b.now) value.entry)) }
@@ -35,10 +36,10 @@ pub fn put_bytes(out: &mut ArrayVec<u8, 2048>, key: &str, value: Option<&[u8]>)
 }
 
 /// A key and a text, where there is one.
-pub fn put_words(out: &mut ArrayVec<u8, 2048>, key: &str, value: Option<&str>)
+pub fn put_words(out: &mut PacketBuffer, key: &str, value: Option<&str>)
     requires { array_vec_len out.old
         + length (pair_bytes key.now (option_map words (option_map (λ t. t.now) value)))
-        ≤ 2048 }
+        ≤ LARGEST_PACKET }
     ensures { out.new.items
         ≡ out.old.items
         ++ pair_bytes key.now (option_map words (option_map (λ t. t.now) value.entry)) }
@@ -49,8 +50,8 @@ pub fn put_words(out: &mut ArrayVec<u8, 2048>, key: &str, value: Option<&str>)
 }
 
 /// A key and a truth value, where there is one.
-pub fn put_truth(out: &mut ArrayVec<u8, 2048>, key: &str, value: Option<bool>)
-    requires { array_vec_len out.old + length (pair_bytes key.now (option_map truth value)) ≤ 2048 }
+pub fn put_truth(out: &mut PacketBuffer, key: &str, value: Option<bool>)
+    requires { array_vec_len out.old + length (pair_bytes key.now (option_map truth value)) ≤ LARGEST_PACKET }
     ensures { out.new.items ≡ out.old.items ++ pair_bytes key.now (option_map truth value) }
 {
     if let Some(value) = value {

@@ -13,17 +13,17 @@ use crate::pairs::{
 };
 use arrayvec::ArrayVec;
 use smp_cbor::put_map;
-use smp_header::write_header;
+use smp_header::{LARGEST_PACKET, PacketBuffer, write_header};
 use smp_model::{Request, UploadPart, set_length};
 
 /// Appends the whole packet of a request, in version 1 (version bits 0) or 2 (version bits 1), with the keys in the
 /// order of the table of requests. Keys that have no value are not written, nor is a `confirm` that is false; the
 /// slot, and the offset of a file's hash, are always written.
-pub fn write_request(out: &mut ArrayVec<u8, 2048>, version: u8, sequence: u8, request: &Request<'_>)
+pub fn write_request(out: &mut PacketBuffer, version: u8, sequence: u8, request: &Request<'_>)
     requires version { version ≤ 1 }
     requires fits { array_vec_len out.old
         + length (request_bytes version sequence (meant_of request.now))
-        ≤ 2048 }
+        ≤ LARGEST_PACKET }
     ensures { out.new.items ≡ out.old.items ++ request_bytes version sequence (meant_of request.now) }
 {
     let start = out.len();
@@ -91,8 +91,8 @@ fn place_of(request: &Request<'_>) -> Place
 }
 
 /// The data of a request.
-fn write_data(out: &mut ArrayVec<u8, 2048>, request: &Request<'_>)
-    requires { array_vec_len out.old + length (data_of (meant_of request.now)) ≤ 2048 }
+fn write_data(out: &mut PacketBuffer, request: &Request<'_>)
+    requires { array_vec_len out.old + length (data_of (meant_of request.now)) ≤ LARGEST_PACKET }
     ensures { out.new.items ≡ out.old.items ++ data_of (meant_of request.now) }
 {
     match request {
@@ -134,10 +134,10 @@ fn write_data(out: &mut ArrayVec<u8, 2048>, request: &Request<'_>)
     }
 }
 
-fn write_image_set(out: &mut ArrayVec<u8, 2048>, hash: Option<&[u8]>, confirm: bool)
+fn write_image_set(out: &mut PacketBuffer, hash: Option<&[u8]>, confirm: bool)
     requires { array_vec_len out.old
         + length (data_of (image_set (option_map (λ h. h.now) hash) confirm))
-        ≤ 2048 }
+        ≤ LARGEST_PACKET }
     ensures { out.new.items
         ≡ out.old.items ++ data_of (image_set (option_map (λ h. h.now) hash.entry) confirm) }
 {
@@ -147,11 +147,11 @@ fn write_image_set(out: &mut ArrayVec<u8, 2048>, hash: Option<&[u8]>, confirm: b
     put_truth(out, "confirm", confirm);
 }
 
-fn write_upload(out: &mut ArrayVec<u8, 2048>, part: &UploadPart<'_>)
+fn write_upload(out: &mut PacketBuffer, part: &UploadPart<'_>)
     requires { let p = part.now in array_vec_len out.old
         + length
         (data_of (upload p.image p.len p.off (option_map (λ s. s.now) p.sha) p.bytes.now))
-        ≤ 2048 }
+        ≤ LARGEST_PACKET }
     ensures { let p = part.now in out.new.items
         ≡ out.old.items
         ++ data_of (upload p.image p.len p.off (option_map (λ s. s.now) p.sha) p.bytes.now) }
@@ -165,8 +165,8 @@ fn write_upload(out: &mut ArrayVec<u8, 2048>, part: &UploadPart<'_>)
     put_bytes(out, "data", Some(part.bytes));
 }
 
-fn write_setting_read(out: &mut ArrayVec<u8, 2048>, name: &str, max_size: Option<u32>)
-    requires { array_vec_len out.old + length (data_of (setting_read name.now max_size)) ≤ 2048 }
+fn write_setting_read(out: &mut PacketBuffer, name: &str, max_size: Option<u32>)
+    requires { array_vec_len out.old + length (data_of (setting_read name.now max_size)) ≤ LARGEST_PACKET }
     ensures { out.new.items ≡ out.old.items ++ data_of (setting_read name.now max_size) }
 {
     put_map(out, 1 + count_number(max_size));
@@ -174,8 +174,8 @@ fn write_setting_read(out: &mut ArrayVec<u8, 2048>, name: &str, max_size: Option
     put_number(out, "max_size", max_size);
 }
 
-fn write_setting_write(out: &mut ArrayVec<u8, 2048>, name: &str, val: &[u8])
-    requires { array_vec_len out.old + length (data_of (setting_write name.now val.now)) ≤ 2048 }
+fn write_setting_write(out: &mut PacketBuffer, name: &str, val: &[u8])
+    requires { array_vec_len out.old + length (data_of (setting_write name.now val.now)) ≤ LARGEST_PACKET }
     ensures { out.new.items ≡ out.old.items ++ data_of (setting_write name.now val.now) }
 {
     put_map(out, 2);
@@ -184,14 +184,14 @@ fn write_setting_write(out: &mut ArrayVec<u8, 2048>, name: &str, val: &[u8])
 }
 
 fn write_file_write(
-    out: &mut ArrayVec<u8, 2048>,
+    out: &mut PacketBuffer,
     off: u32,
     bytes: &[u8],
     len: Option<u32>,
     name: &str,
 )
     requires { array_vec_len out.old + length (data_of (file_write off bytes.now len name.now))
-        ≤ 2048 }
+        ≤ LARGEST_PACKET }
     ensures { out.new.items ≡ out.old.items ++ data_of (file_write off bytes.now len name.now) }
 {
     put_map(out, 3 + count_number(len));
@@ -202,7 +202,7 @@ fn write_file_write(
 }
 
 fn write_file_hash(
-    out: &mut ArrayVec<u8, 2048>,
+    out: &mut PacketBuffer,
     name: &str,
     kind: Option<&str>,
     off: u32,
@@ -210,7 +210,7 @@ fn write_file_hash(
 )
     requires { array_vec_len out.old
         + length (data_of (file_hash name.now (option_map (λ k. k.now) kind) off len))
-        ≤ 2048 }
+        ≤ LARGEST_PACKET }
     ensures { out.new.items
         ≡ out.old.items ++ data_of (file_hash name.now (option_map (λ k. k.now) kind.entry) off len) }
 {
