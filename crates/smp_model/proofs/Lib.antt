@@ -28,6 +28,7 @@ mod Keeping
 mod DropsDue
 mod FlashUses
 mod EarlyTargets
+mod AskedMarks
 mod StoredForms
 mod NamedThings
 pub mod ImageAreas

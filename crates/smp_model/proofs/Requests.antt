@@ -1,6 +1,8 @@
 -- The requests for uploads by their cases, and the side that they leave.
 use Rattle.std.proofs.Common.{◌≡◌, ◌-◌, ◌==◌, not, ℕ, zero, suc, List, [], ◌∷◌, ◌++◌, length, Bool, true, false, Option, Some, None, refl, sym, ap, subst, ◌∙◌, arith, if◌then◌else◌, nat_lt}
-use Rattle.std.specs.Prelude.{option_map}
+use Rattle.std.specs.Prelude.{◌&&◌, option_map, IsSome}
+use Rattle.std.proofs.lemmas.Slice.Eq.{bytes_eq-Decides}
+use Rattle.smp_model.specs.Uploads.{is_spoiled, is_resumed_by, same_digest}
 use Rattle.std.proofs.lemmas.Bool.Decides.{nat_tests}
 use Rattle.smp_model.specs.declared.device.AbstractDevice.{AbstractDevice}
 use Rattle.smp_model.specs.declared.device.Side.{Side}
@@ -9,7 +11,7 @@ use Rattle.smp_model.specs.declared.upload.Announcement.{Announcement}
 use Rattle.smp_model.specs.ImageGroup.{part_at, start_at, side_of, is_offset, aims, has_wrong_size, begins_with_magic, begins_on, start_of, part_of, uploads_to, uploads, refuses_image}
 use Rattle.smp_model.specs.Response.{Response, SideResponse, settling_side}
 use Rattle.smp_model.specs.Said.{Said, if_some}
-use Rattle.smp_model.specs.Sides.{SideStep, side_apply, side_applied, side_settle_steps, side_settle}
+use Rattle.smp_model.specs.Sides.{SideStep, Drop, side_apply, side_applied, side_settle_steps, side_settle}
 use Rattle.smp_model.specs.Steps.{Step, Run, aim_at, side_at, apply, applied, on_side, settle, settle_steps, settle_steps_of}
 use Rattle.smp_model.proofs.Cases.{by_if, either_way}
 use Rattle.smp_model.proofs.OnSides.{applied_more, found_after, found_other, side_changed}
@@ -106,3 +108,42 @@ pub settle_whole : (d : AbstractDevice) → settle d ≡ record d { first = side
 settle_whole d =
     applied_more (settle_steps_of 0 d) (settle_steps_of 1 d) d
     ∙ (ap (applied (settle_steps_of 1 d)) (first_applied (side_settle_steps d.first) d) ∙ second_settled (record d { first = side_settle d.first }) d.second)
+
+pub settle_drops : (s : Side) → (side_settle s).upload ≡ (if is_spoiled s.upload then None else s.upload)
+settle_drops s = go (is_spoiled s.upload)
+  where
+    go : (b : Bool) → (side_applied (if b then Drop ∷ [] else []) s).upload ≡ (if b then None else s.upload)
+    go true = refl
+    go false = refl
+
+pub settle_keeps : (s : Side) → side_settle s ≡ record s { upload = (side_settle s).upload }
+settle_keeps s = go (is_spoiled s.upload)
+  where
+    go : (b : Bool) → side_applied (if b then Drop ∷ [] else []) s ≡ record s { upload = (side_applied (if b then Drop ∷ [] else []) s).upload }
+    go true = refl
+    go false = refl
+
+-- what resumes an upload announced the same
+pub resumed_same : (a b : Announcement) → is_resumed_by a b ≡ true → (a ≡ b) × IsSome b.digest
+resumed_same a b h = digests a.digest b.digest (right (a.length == b.length) (same_digest a.digest b.digest) h) refl refl
+  where
+    left : (x y : Bool) → (x && y) ≡ true → x ≡ true
+    left true y e = refl
+    left false y e = cc
+
+    right : (x y : Bool) → (x && y) ≡ true → y ≡ true
+    right true y e = e
+    right false y e = cc
+
+    same : a.length ≡ b.length
+    same = let t = left (a.length == b.length) (same_digest a.digest b.digest) h in grind (arith, nat_tests, t)
+
+    digests : (x y : Option (List ℕ)) → same_digest x y ≡ true → a.digest ≡ x → b.digest ≡ y → (a ≡ b) × IsSome b.digest
+    digests None y e p q = cc
+    digests (Some d) None e p q = cc
+    digests (Some d) (Some f) e p q =
+        let equal : a.digest ≡ b.digest = p ∙ (ap Some ((bytes_eq-Decides d f).0 e) ∙ sym q) in
+        (made a.length b.length a.digest b.digest same equal, subst IsSome (sym q) refl)
+      where
+        made : (m n : ℕ) (u v : Option (List ℕ)) → m ≡ n → u ≡ v → announced m u ≡ announced n v
+        made m n u v j k = cc

@@ -213,3 +213,16 @@ abbrev pub GoesToUpload : Step → Type 0
 GoesToUpload (OnSide image (Choose a)) = Unit {0}
 GoesToUpload (OnSide image (Append bytes)) = Unit {0}
 GoesToUpload step = ⊥
+
+-- the image of this hash runs and is confirmed, or the slot that holds it is pending by the mark that was asked for
+abbrev pub IsSet : (hash : List ℕ) (confirm : Bool) → Side → Type 0
+IsSet hash confirm s =
+    (IsTrue (runs hash (Some s)) × ((confirm ≡ true) × (s.confirmed ≡ true)))
+    ⊎ (IsTrue (holds hash (Some s)) × (s.pending ≡ Some (mark_of confirm)))
+
+-- it is so of some side of the device
+pub record IsSetOn (hash : List ℕ) (confirm : Bool) (d : AbstractDevice) : Type 0 where
+  pub image : ℕ
+  pub side : Side
+  pub found : side_at image d ≡ Some side
+  pub fact : IsSet hash confirm side

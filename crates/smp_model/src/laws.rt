@@ -7,6 +7,7 @@ ghost use Rattle.smp_model.specs.declared.device.Side.{Side as OneSide};
 ghost use Rattle.smp_model.specs.declared.device.Sizes.{Sizes as FlashSizes};
 ghost use Rattle.smp_model.specs.declared.device.Upload.{Upload as Uploaded};
 ghost use Rattle.smp_model.specs.declared.setting.Setting.{Setting as Stored};
+ghost use Rattle.smp_model.specs.declared.upload.Announcement.{Announcement as Announced};
 ghost use Rattle.smp_model.specs.declared.upload.Mark.{Mark as Marked};
 ghost use Rattle.smp_model.specs.Acknowledged.{acknowledged, chosen_since, CoversOn};
 ghost use Rattle.smp_model.specs.Consistent.{HasTexts, IsConsistent};
@@ -17,7 +18,7 @@ ghost use Rattle.smp_model.specs.Faults.{IsHandledWithFault};
 ghost use Rattle.smp_model.specs.FlashUse.{uses_images, uses_saved};
 ghost use Rattle.smp_model.specs.Handled.{Handled, handled};
 ghost use Rattle.smp_model.specs.ImageGroup.{confirms_on, holds, is_offset, marks_on, pair_of, refuses_image, runs, sets_hash, side_of, uploads_to};
-ghost use Rattle.smp_model.specs.Laws.{EachSide, EachStep, GoesToUpload, GoodUpload, IsAboutImages, IsApart, IsDropDue, IsDue, IsNoSave, IsOfFirst, IsOffSides, IsOn, IsSound, MatchHolds, MatchTold, OnImage, PendingIsGood, Reaches, ReplyHeld, SameBesideImages, SameImages, SameUpload, SettlesAtMost, StartsWith, is_foreign};
+ghost use Rattle.smp_model.specs.Laws.{EachSide, EachStep, GoesToUpload, GoodUpload, IsAboutImages, IsApart, IsDropDue, IsDue, IsNoSave, IsOfFirst, IsOffSides, IsOn, IsSetOn, IsSound, MatchHolds, MatchTold, OnImage, PendingIsGood, Reaches, ReplyHeld, SameBesideImages, SameImages, SameUpload, SettlesAtMost, StartsWith, is_foreign};
 ghost use Rattle.smp_model.specs.Meaning.{meaning};
 ghost use Rattle.smp_model.specs.Meant.{Meant, erase, image_list, image_set, save, upload};
 ghost use Rattle.smp_model.specs.Response.{reply_alone};
@@ -25,7 +26,7 @@ ghost use Rattle.smp_model.specs.Said.{Said, images, is_error};
 ghost use Rattle.smp_model.specs.Settings.{IsStoredForm, is_within_limits, settings_in, stored_form};
 ghost use Rattle.smp_model.specs.Sides.{Append, Choose, Drop, MarkPending, SidePart, SideStep, side_applied, side_settle};
 ghost use Rattle.smp_model.specs.Steps.{OnSide, Part, Step, applied, on_side, with_side, settle, settle_of, settle_steps, settle_steps_of, side_at, start};
-ghost use Rattle.smp_model.specs.Uploads.{is_tagged_by, uploaded_image};
+ghost use Rattle.smp_model.specs.Uploads.{is_resumed_by, is_spoiled, is_tagged_by, uploaded_image};
 
 use crate::error::{HASH_NOT_FOUND, INVALID_SLOT};
 
@@ -78,6 +79,17 @@ pub fn the_first_slot_is_meant()
         → IsOfFirst (settle d) hash step }
 {}
 
+/// Where a mark or a confirmation is asked for and the answer is no error, it is so afterwards: the image of the hash runs and
+/// is confirmed, or the slot that holds it is pending by that mark. Without a hash image 0 is confirmed.
+pub fn what_is_asked_for_is_done()
+    ensures asked { (sizes : FlashSizes) (d : Device) (hash : List ℕ) (confirm : Bool)
+        → 0 < length hash
+        → is_error (does sizes d (image_set (Some hash) confirm)).reply ≡ false
+        → IsSetOn hash confirm (applied (does sizes d (image_set (Some hash) confirm)).steps d) }
+    ensures confirmed { (sizes : FlashSizes) (d : Device)
+        → (applied (does sizes d (image_set None true)).steps d).first.confirmed ≡ true }
+{}
+
 /// An upload is given up only at an erase, while nothing is pending, or where it is spoiled: as it was before the request,
 /// where settling takes it, or by bytes of this request that made it complete.
 pub fn drops_are_due()
@@ -126,11 +138,15 @@ pub fn a_pending_slot_is_good()
     ensures started { (d : Device) → EachSide PendingIsGood d → EachSide PendingIsGood (start d) }
 {}
 
-/// Settling a device is settling each of its sides. A settled device has nothing to settle, and neither has a settled side.
+/// Settling a device is settling each of its sides, which gives up an upload that is spoiled and keeps all else. A settled
+/// device has nothing to settle, and neither has a settled side.
 pub fn settling_is_done_once()
     ensures whole { (d : Device)
         → settle d
         ≡ record d { first = side_settle d.first; second = option_map side_settle d.second } }
+    ensures drops { (s : OneSide)
+        → (side_settle s).upload ≡ (if is_spoiled s.upload then None else s.upload) }
+    ensures keeps { (s : OneSide) → side_settle s ≡ record s { upload = (side_settle s).upload } }
     ensures steps { (d : Device) → settle_steps (settle d) ≡ [] }
     ensures device { (d : Device) → settle (settle d) ≡ settle d }
     ensures one { (image : ℕ) (d : Device) → settle_steps_of image (settle_of image d) ≡ [] }
@@ -211,14 +227,17 @@ pub fn the_next_part_is_kept()
         (does sizes d (upload image len (length u.accepted) sha part)).reply }
 {}
 
-/// A start is refused, or what it brings is kept but for at most seven bytes, or it goes on with the upload that it announces.
+/// A start is refused, or what it brings is kept but for at most seven bytes, or it goes on with the upload that it announces:
+/// one of the same length and the same digest.
 pub fn the_first_part_is_kept()
-    ensures { (sizes : FlashSizes) (d : Device) (image : Option ℕ) (n : ℕ) (sha : Option (List ℕ))
+    ensures kept { (sizes : FlashSizes) (d : Device) (image : Option ℕ) (n : ℕ) (sha : Option (List ℕ))
         (part : List ℕ)
         → 0 < sizes.unit → sizes.unit ≤ 8
         → IfSome (side_at (side_of d.target image 0 sha) d)
         (λ s. StartsWith (record { length = n; digest = sha }) (length part)
         (side_settle s).upload (does sizes d (upload image (Some n) 0 sha part)).reply) }
+    ensures resumed { (one other : Announced) → IsTrue (is_resumed_by one other)
+        → (one ≡ other) × IsSome other.digest }
 {}
 
 /// A part whose tag is not the digest of the upload that its side has stores nothing: it has no steps but those by which that
@@ -276,10 +295,12 @@ pub fn refusals_change_nothing()
         → IsTrue (is_error (does sizes d m).reply) → SettlesAtMost d (does sizes d m).steps }
 {}
 
-/// Only a save changes what is saved: to what runs.
+/// Only a save changes what is saved: to what runs. One that is done whole has done so.
 pub fn only_a_save_saves()
-    ensures { (sizes : FlashSizes) (d e : Device) (m : Meant) → Part d (does sizes d m).steps e
+    ensures only { (sizes : FlashSizes) (d e : Device) (m : Meant) → Part d (does sizes d m).steps e
         → (e.saved ≡ d.saved) ⊎ ((m ≡ save) × (e.saved ≡ d.running)) }
+    ensures whole { (sizes : FlashSizes) (d : Device)
+        → (applied (does sizes d save).steps d).saved ≡ d.running }
 {}
 
 /// A start keeps what is saved and makes it run, settles each side, and forgets files, counters and the target of parts.

@@ -41,7 +41,7 @@ pub use laws::{
     settled_devices_stay_settled, settling_is_done_once, steps_are_due, steps_need_the_flash,
     steps_of_a_side_lift, stored_settings_are_read_back, the_first_part_is_kept,
     the_first_slot_is_meant, the_next_part_is_kept, the_target_moves_at_starts,
-    unnamed_images_are_found,
+    unnamed_images_are_found, what_is_asked_for_is_done,
 };
 pub use packet::set_length;
 pub use packet_laws::{keys_are_texts, packets_are_read_back, plain_maps_are_written};

@@ -1,6 +1,6 @@
 use Rattle.std.proofs.Common.{ap}
 use Rattle.smp_model.specs.Steps.{applied, settle}
-use Rattle.smp_model.proofs.Requests.{settle_whole, settled_side, settled_side_of}
+use Rattle.smp_model.proofs.Requests.{settle_whole, settle_drops, settle_keeps, settled_side, settled_side_of}
 use Rattle.smp_model.proofs.UploadLaws.{settled_again, settled_of}
 use Rattle.smp_model.proofs.laws.settling_is_done_once.Goals as goal
 
@@ -21,3 +21,9 @@ returns-clause-side c = settled_side_of
 
 pub returns-clause-whole : goal.returns-clause-whole
 returns-clause-whole c = settle_whole
+
+pub returns-clause-drops : goal.returns-clause-drops
+returns-clause-drops c = settle_drops
+
+pub returns-clause-keeps : goal.returns-clause-keeps
+returns-clause-keeps c = settle_keeps
