@@ -237,7 +237,7 @@ octets_again s t r =
     let long : ltb (length (t ++ r)) (length t) ≡ false = le-ltb _ _ (omega (arith, length-append t r)) in
     rw (long, take_at t r (length t) refl, drop_at t r (length t) refl) refl
 
-text_again : (s t r : List ℕ) → IsUtf8 t → text_at s (length t) (t ++ r) ≡ Ok (t, r)
+pub text_again : (s t r : List ℕ) → IsUtf8 t → text_at s (length t) (t ++ r) ≡ Ok (t, r)
 unfolding text_at
 text_again s t r utf8 = rw (octets_again s t r, is_utf8-from_IsUtf8 t utf8) refl
 
@@ -245,7 +245,7 @@ not_text : (s r : List ℕ) (o : Option Pairs) → Err (stop_at s kinds.Key) ≡
 not_text s r (Some ps) = refl
 not_text s r None = refl
 
-simple_leaf : (b : List ℕ) (hd : Head) (v : Value) → IsHead b hd → ((inner : Option Skip) (s r : List ℕ) → skip_body inner s hd r ≡ Ok r) → ((s r : List ℕ) → leaf_value s hd r ≡ v) → ((e : ℕ) (s r : List ℕ) → inner_value e (value_at e) s hd r ≡ v)
+pub simple_leaf : (b : List ℕ) (hd : Head) (v : Value) → IsHead b hd → ((inner : Option Skip) (s r : List ℕ) → skip_body inner s hd r ≡ Ok r) → ((s r : List ℕ) → leaf_value s hd r ≡ v) → ((e : ℕ) (s r : List ℕ) → inner_value e (value_at e) s hd r ≡ v)
     → ((s r : List ℕ) → key_body s hd r ≡ key_result s r v) → (d : ℕ) → Reads d b v
 simple_leaf b hd v is skip leaf inner key d = reads_leaf b b [] hd v (sym (append-nil b)) is key skip leaf inner d
 

@@ -1,10 +1,11 @@
 -- Laws of spellings, of their faults and of the shortest form (RFC 8949, sections 3, 4.1 and 5.3), each the clause of a function in src/laws.rt.
-use Rattle.std.specs.Prelude.{◌≡◌, ◌≢◌, ◌⊎◌, ℕ, ◌<◌, ◌≤◌, List, [], ◌++◌, length, take, Ok}
+use Rattle.std.specs.Prelude.{◌≡◌, ◌≢◌, ◌⊎◌, ℕ, ◌+◌, ◌<◌, ◌≤◌, List, [], ◌++◌, length, take, Some, Ok}
 use Rattle.smp_cbor.specs.declared.fault.CborKind.{CborKind}
 use Rattle.smp_cbor.specs.declared.fault.CborKind.TheVariants as kinds
-use Rattle.smp_cbor.specs.Values.{Value, map, Pairs, pairs, map_of}
-use Rattle.smp_cbor.specs.Shortest.{short_head, shortest, HasShortest}
+use Rattle.smp_cbor.specs.Values.{Value, text, map, Pairs, pairs, map_of}
+use Rattle.smp_cbor.specs.Shortest.{short_head, short_text, shortest, HasShortest}
 use Rattle.smp_cbor.specs.Spelling.{Numbered, Spells, SpellsMap}
+use Rattle.smp_cbor.specs.Views.{look_up}
 use Rattle.smp_cbor.specs.Faults.{IsFirstFault}
 
 -- No spelling is a proper front of another, whatever their levels, and bytes spell one value at most.
@@ -38,3 +39,11 @@ IsLeastHead h = (major n : ℕ) → Numbered major n h → (length (short_head m
 -- reading the shortest form of a map gives its pairs
 abbrev pub ShortestIsRead : Type 0
 ShortestIsRead = (ps : List (List ℕ × Value)) → HasShortest 1 (map (pairs ps)) → map_of (shortest (map (pairs ps))) ≡ Ok ps
+
+-- a head that the writer puts has at most nine bytes
+abbrev pub HeadsAreShort : Type 0
+HeadsAreShort = (major n : ℕ) → length (short_head major n) ≤ 9
+
+-- A map in which a key has a text spends a byte on its head, and as many on the key and the text as their shortest forms.
+abbrev pub TextsTakeTheirBytes : List ℕ → Type 0
+TextsTakeTheirBytes b = (ps : List (List ℕ × Value)) (key t : List ℕ) → SpellsMap b (pairs ps) → look_up key ps ≡ Some (text t) → 1 + (length (short_text key) + length (short_text t)) ≤ length b

@@ -1,6 +1,7 @@
 -- Lent views of values (RFC 8949, section 2): what a map, a list or an item that lends the bytes shows of them.
-use Rattle.std.specs.Prelude.{◌≡◌, ℕ, List, [], ◌∷◌, ◌++◌, Option, Some, None, if◌then◌else◌}
+use Rattle.std.specs.Prelude.{◌≡◌, ℕ, List, [], ◌∷◌, ◌++◌, map as each_of, option_map, Option, Some, None, Result, if◌then◌else◌}
 use Rattle.std.specs.Str.{bytes_eq}
+use Rattle.smp_cbor.specs.declared.fault.Stop.{Stop}
 use Rattle.smp_cbor.specs.declared.views.Item.{Item}
 use Rattle.smp_cbor.specs.declared.views.Item.TheVariants as items
 use Rattle.smp_cbor.specs.declared.views.MapView.{MapView}
@@ -27,10 +28,32 @@ value_of (items.Bool b) = boolean b
 value_of items.Null = null
 value_of items.Other = other
 
+-- the values of items that may be missing
+abbrev pub values_of : List (Option Item) → List (Option Value)
+values_of items = each_of (option_map value_of) items
+
 -- the value of the first pair that has the key
 abbrev pub look_up : List ℕ → List (List ℕ × Value) → Option Value
 look_up key [] = None
 look_up key (p ∷ ps) = if bytes_eq p.0 key then Some p.1 else look_up key ps
+
+-- the same for each of several keys
+abbrev pub look_up_each : List (List ℕ) → List (List ℕ × Value) → List (Option Value)
+look_up_each keys ps = each_of (λ key. look_up key ps) keys
+
+-- the first value, or else the second
+abbrev pub or_else : Option Value → Option Value → Option Value
+or_else (Some v) o = Some v
+or_else None o = o
+
+abbrev pub or_else_each : List (Option Value) → List (Option Value) → List (Option Value)
+or_else_each (f ∷ fs) (o ∷ os) = or_else f o ∷ or_else_each fs os
+or_else_each fs os = []
+
+-- what was found of several keys, after one more pair
+abbrev pub noted : List ℕ → Value → List (List ℕ) → List (Option Value) → List (Option Value)
+noted key v (k ∷ keys) (f ∷ found) = or_else f (if bytes_eq key k then Some v else None) ∷ noted key v keys found
+noted key v keys found = []
 
 -- a part of some bytes, where they lie
 abbrev pub IsPart : List ℕ → List ℕ → Type 0
@@ -42,6 +65,10 @@ map_bytes m = m.bytes.now
 
 abbrev pub list_bytes : ListView → List ℕ
 list_bytes l = l.bytes.now
+
+-- the bytes behind the first item of a list
+abbrev pub after_first : ListView → Result (List ℕ) Stop
+after_first l = skip_at l.depth l.bytes.now
 
 abbrev pub item_bytes : Item → List ℕ
 item_bytes (items.Octets b) = b.now

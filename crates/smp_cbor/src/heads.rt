@@ -22,6 +22,7 @@ pub enum Head {
 }
 
 /// The number in the next byte, and the bytes after it.
+#[inline(always)]
 fn u8_at(bytes: &[u8]) -> Result<(u64, &[u8]), CborKind>
     ensures { Gives (λ x. (x.0, x.1.now)) result (byte_at bytes.now) }
 {
@@ -32,6 +33,7 @@ fn u8_at(bytes: &[u8]) -> Result<(u64, &[u8]), CborKind>
 }
 
 /// The number in the next 2 bytes.
+#[inline(always)]
 fn u16_at(bytes: &[u8]) -> Result<(u64, &[u8]), CborKind>
     ensures { Gives (λ x. (x.0, x.1.now)) result (number_at w16 bytes.now) }
 {
@@ -43,6 +45,7 @@ fn u16_at(bytes: &[u8]) -> Result<(u64, &[u8]), CborKind>
 }
 
 /// The number in the next 4 bytes.
+#[inline(always)]
 fn u32_at(bytes: &[u8]) -> Result<(u64, &[u8]), CborKind>
     ensures { Gives (λ x. (x.0, x.1.now)) result (number_at w32 bytes.now) }
 {
@@ -55,6 +58,7 @@ fn u32_at(bytes: &[u8]) -> Result<(u64, &[u8]), CborKind>
 }
 
 /// The number in the next 8 bytes.
+#[inline(always)]
 fn u64_at(bytes: &[u8]) -> Result<(u64, &[u8]), CborKind>
     ensures { Gives (λ x. (x.0, x.1.now)) result (number_at w64 bytes.now) }
 {
@@ -69,6 +73,7 @@ fn u64_at(bytes: &[u8]) -> Result<(u64, &[u8]), CborKind>
 }
 
 /// The argument: what the low five bits of a first byte, with the bytes after it, give.
+#[inline(always)]
 #[tactic(auto, unfolding(crate::specs::Heads::argument_at))]
 fn number_of(low: u8, bytes: &[u8]) -> Result<(u64, &[u8]), CborKind>
     ensures { Gives (λ x. (x.0, x.1.now)) result (argument_at low bytes.now) }
@@ -84,6 +89,7 @@ fn number_of(low: u8, bytes: &[u8]) -> Result<(u64, &[u8]), CborKind>
 }
 
 /// A head of major type 7 (RFC 8949, section 3.3).
+#[inline(always)]
 #[tactic(auto, unfolding(crate::specs::Heads::simple_at))]
 fn simple_of(low: u8, bytes: &[u8]) -> Result<(Head, &[u8]), CborKind>
     ensures { Gives (λ x. (x.0, x.1.now)) result (simple_at low bytes.now) }
@@ -103,6 +109,7 @@ fn simple_of(low: u8, bytes: &[u8]) -> Result<(Head, &[u8]), CborKind>
 }
 
 /// The head at the front, and the bytes after it.
+#[inline(always)]
 #[tactic(auto, unfolding(crate::specs::Heads::head_at))]
 pub fn head_of(bytes: &[u8]) -> Result<(Head, &[u8]), CborKind>
     ensures { Gives (λ x. (x.0, x.1.now)) result (head_at bytes.now) }
@@ -128,6 +135,7 @@ pub fn head_of(bytes: &[u8]) -> Result<(Head, &[u8]), CborKind>
 }
 
 /// The head of a major type below 7, with its argument.
+#[inline(always)]
 fn named(major: u8, number: u64) -> Head
     ensures { result ≡ named_head major number }
 {

@@ -1,7 +1,7 @@
 //! Laws of spellings, of their faults and of the shortest form: functions with empty bodies, whose clauses hold of every
 //! value. A caller that calls one knows its law from there on.
 
-ghost use Rattle.smp_cbor.specs.Laws.{SpellingsEnd, HasOneFault, HasNoFaultWhereMap, HasSoundFront, HasLastingFault, ShortestSpells, IsLeastHead, ShortestIsRead};
+ghost use Rattle.smp_cbor.specs.Laws.{SpellingsEnd, HasOneFault, HasNoFaultWhereMap, HasSoundFront, HasLastingFault, ShortestSpells, IsLeastHead, ShortestIsRead, HeadsAreShort, TextsTakeTheirBytes};
 
 /// No spelling is a proper front of another, and no bytes spell two values.
 pub fn spellings_end()
@@ -41,4 +41,14 @@ pub fn head_is_least(_head: &[u8])
 /// What is written in its shortest form as one map is read as that map.
 pub fn shortest_is_read()
     ensures { ShortestIsRead }
+{}
+
+/// A head that the writer puts has at most nine bytes.
+pub fn heads_are_short()
+    ensures { HeadsAreShort }
+{}
+
+/// A map in which a key has a text is no shorter than the shortest map of that key and that text.
+pub fn texts_take_their_bytes(_bytes: &[u8])
+    ensures { TextsTakeTheirBytes _bytes.now }
 {}

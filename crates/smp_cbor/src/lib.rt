@@ -40,7 +40,7 @@
 //!
 //! # Laws
 //!
-//! The functions with empty bodies, from [`spellings_end`] to [`shortest_is_read`], state laws of the format in their
+//! The functions with empty bodies, from [`spellings_end`] to [`texts_take_their_bytes`], state laws of the format in their
 //! clauses: no spelling is a proper front of another, the first fault is the only one, stands in no map, comes as early
 //! as it can and stays whatever follows, and the shortest form of a whole value is read as that value.
 #![tactic(auto)]
@@ -56,8 +56,8 @@ mod writing;
 
 pub use fault::{CborFault, CborKind};
 pub use laws::{
-    fault_is_unique, fault_lasts, front_is_sound, head_is_least, map_has_no_fault,
-    shortest_is_read, shortest_spells, spellings_end,
+    fault_is_unique, fault_lasts, front_is_sound, head_is_least, heads_are_short, map_has_no_fault,
+    shortest_is_read, shortest_spells, spellings_end, texts_take_their_bytes,
 };
 pub use reading::read_map;
 pub use views::{Item, ListView, MapView};

@@ -18,8 +18,9 @@ const INNER_LEVELS: u8 = 7;
 
 /// The map that the bytes spell, or the first fault. No bytes are the empty map.
 ///
-/// All of the bytes are tested here, in time linear in their number, but for the search for repeated keys: that takes
-/// each key against all pairs before it.
+/// All of the bytes are tested here, in time linear in their number, but for the search for repeated keys:
+/// that takes each key against all before it. Up to 344 keys are kept for it on the stack; a key behind those
+/// is sought among them, and by a walk over the pairs since.
 pub fn read_map(bytes: &[u8]) -> Result<MapView<'_>, CborFault>
     // What is read is spelled so, and what is spelled so is read.
     ensures found { IfOk result (λ m. SpellsMap bytes.now (pairs (entries m))) }
@@ -27,7 +28,8 @@ pub fn read_map(bytes: &[u8]) -> Result<MapView<'_>, CborFault>
 
     // What is refused has this first fault, and what has a first fault is refused by it.
     ensures fault { IfErr result (λ f. IsFirstFault bytes.now f.at f.kind) }
-    ensures refused { (at : ℕ) (kind : CborKind) → IsFirstFault bytes.now at kind → IsErrAnd result (λ f. (f.at ≡ at) × (f.kind ≡ kind)) }
+    ensures refused { (at : ℕ) (kind : CborKind) → IsFirstFault bytes.now at kind
+        → IsErrAnd result (λ f. (f.at ≡ at) × (f.kind ≡ kind)) }
 
     // The same by the function on lists, for crates that compute with it.
     ensures ok { IfOk result (λ m. map_of bytes.now ≡ Ok (entries m)) }

@@ -1,7 +1,7 @@
 //! The bytes after an item, found without building its value, in time linear in the item's length.
 
-ghost use Rattle.std.specs.Prelude.{◌≡◌, ◌&&◌, false, true, is_none, drop, IfNone, IfSome};
-ghost use Rattle.std.specs.Str.{is_utf8};
+ghost use Rattle.std.specs.Prelude.{◌≡◌, ◌&&◌, ◌∷◌, ℕ, List, Ok, IsTrue, false, true, is_none, drop, IfNone, IfSome};
+ghost use Rattle.std.specs.Str.{IsAscii, is_utf8};
 ghost use Rattle.smp_cbor.specs.Heads.{Gives, head_at as head_from};
 ghost use Rattle.smp_cbor.specs.Skipping.{placed, stop_at, octets_at, text_at, begins_break, turns as turns_at, skip_entries_at, skip_at, entry};
 
@@ -10,6 +10,7 @@ use crate::heads::{Head, head_of};
 use std::str;
 
 /// A fault at the head that the bytes begin with.
+#[inline(always)]
 pub fn stop(bytes: &[u8], kind: CborKind) -> Stop
     ensures { result ≡ stop_at bytes.now kind }
 {
@@ -20,6 +21,7 @@ pub fn stop(bytes: &[u8], kind: CborKind) -> Stop
 }
 
 /// The head at the front and the bytes after it, or the fault there.
+#[inline(always)]
 pub fn head_at(bytes: &[u8]) -> Result<(Head, &[u8]), Stop>
     ensures { Gives (λ x. (x.0, x.1.now)) result (placed bytes.now (head_from bytes.now)) }
 {
@@ -56,6 +58,46 @@ fn utf8_of(bytes: &[u8]) -> Option<&str>
     }
 }
 
+/// Whether each byte is ASCII. This is the short way for a few bytes.
+fn is_ascii(bytes: &[u8]) -> bool
+    ensures { IsTrue result → IsAscii bytes.now }
+{
+    for byte in bytes {
+        if *byte >= 0x80 {
+            return false;
+        }
+    }
+    true
+}
+
+/// Whether the bytes are UTF-8.
+#[tactic(auto, using(crate::proofs::Texts::texts))]
+fn is_text(bytes: &[u8]) -> bool
+    ensures { result ≡ is_utf8 bytes.now }
+{
+    if bytes.len() <= 16 && is_ascii(bytes) {
+        return true;
+    }
+    utf8_of(bytes).is_some()
+}
+
+/// The bytes of a text and those after it, behind the head that stands at `start`.
+#[tactic(auto, unfolding(crate::specs::Skipping::text_at))]
+pub fn text_octets_of<'a>(
+    start: &'a [u8],
+    length: u64,
+    rest: &'a [u8],
+) -> Result<(&'a [u8], &'a [u8]), Stop>
+    ensures { Gives (λ x. (x.0.now, x.1.now)) result (text_at start.now length rest.now) }
+{
+    let (text, after) = octets_of(start, length, rest)?;
+    if is_text(text) {
+        Ok((text, after))
+    } else {
+        Err(stop(start, CborKind::NotUtf8))
+    }
+}
+
 /// A text and the bytes after it, behind the head that stands at `start`.
 #[tactic(auto, unfolding(crate::specs::Skipping::text_at))]
 pub fn text_of<'a>(
@@ -72,30 +114,11 @@ pub fn text_of<'a>(
     }
 }
 
-/// As `text_of`, where the text may well be `wanted`: then that one is lent, and no test for UTF-8 is made.
-#[tactic(auto, using(crate::proofs::Texts::texts), unfolding(crate::specs::Skipping::text_at))]
-pub fn text_or_wanted<'w, 'a: 'w>(
-    start: &'a [u8],
-    length: u64,
-    rest: &'a [u8],
-    wanted: &'w str,
-) -> Result<(&'w str, &'a [u8]), Stop>
-    ensures { Gives (λ x. (x.0.now, x.1.now)) result (text_at start.now length rest.now) }
-{
-    let (text, after) = octets_of(start, length, rest)?;
-    if text == wanted.as_bytes() {
-        return Ok((wanted, after));
-    }
-    match utf8_of(text) {
-        Some(text) => Ok((text, after)),
-        None => Err(stop(start, CborKind::NotUtf8)),
-    }
-}
-
 /// The bytes after the break, where entries go on to a break and it stands here.
 pub fn after_break(until_break: bool, bytes: &[u8]) -> Option<&[u8]>
     ensures goes_on { IfNone result ((until_break && begins_break bytes.now) ≡ false) }
-    ensures ends { IfSome result (λ r. ((until_break && begins_break bytes.now) ≡ true) × (r.now ≡ drop 1 bytes.now)) }
+    ensures ends { let here = (until_break && begins_break bytes.now) ≡ true in
+        IfSome result (λ r. here × (r.now ≡ drop 1 bytes.now)) }
 {
     match (until_break, bytes) {
         (true, [255, rest @ ..]) => Some(rest),
@@ -113,10 +136,37 @@ pub fn turns_of(count: Option<u64>, bytes: &[u8]) -> u64
     }
 }
 
+/// Whether a first byte is an item by itself, at any level: a number or a simple value in its low bits, or
+/// an empty string.
+#[inline(always)]
+fn is_whole(first: u8) -> bool
+    ensures { IsTrue result → (depth : ℕ) (rest : List ℕ) → skip_at depth (first ∷ rest) ≡ Ok rest }
+{
+    match first {
+        0x00..=0x17 => true,
+        0x20..=0x37 => true,
+        0x40 => true,
+        0x60 => true,
+        0xe0..=0xf7 => true,
+        _ => false,
+    }
+}
+
 /// The bytes after the item, in which lists, maps and tags may stand `depth` deep.
 #[cycle(skip)]
-#[tactic(auto, unfolding(crate::specs::Skipping::skip_at))]
 pub fn skip_item(depth: u8, bytes: &[u8]) -> Result<&[u8], Stop>
+    ensures { Gives (λ x. x.now) result (skip_at depth bytes.now) }
+{
+    match bytes {
+        [first, rest @ ..] if is_whole(*first) => Ok(rest),
+        _ => skip_parts(depth, bytes),
+    }
+}
+
+/// As `skip_item`, by the head and what it announces.
+#[cycle(skip)]
+#[tactic(auto, unfolding(crate::specs::Skipping::skip_at, crate::specs::Skipping::skips))]
+fn skip_parts(depth: u8, bytes: &[u8]) -> Result<&[u8], Stop>
     ensures { Gives (λ x. x.now) result (skip_at depth bytes.now) }
 {
     let (head, rest) = head_at(bytes)?;
@@ -129,12 +179,13 @@ pub fn skip_item(depth: u8, bytes: &[u8]) -> Result<&[u8], Stop>
             Ok(after)
         }
         Head::Text(length) => {
-            let (_, after) = text_of(bytes, length, rest)?;
+            let (_, after) = text_octets_of(bytes, length, rest)?;
             Ok(after)
         }
         Head::List(_) | Head::Map(_) | Head::Tag if depth == 0 => {
             Err(stop(bytes, CborKind::Deep))
         }
+        Head::List(Some(0)) | Head::Map(Some(0)) => Ok(rest),
         Head::List(count) => skip_entries(depth - 1, false, count, rest),
         Head::Map(count) => skip_entries(depth - 1, true, count, rest),
         Head::Tag => skip_item(depth - 1, rest),

@@ -99,6 +99,13 @@ fn walks(rt: HostRuntime) {
         (map.find("c"), map.find("Amt2"), empty.find("a")),
         (None, None, None)
     );
+    let mut found = [None; 4];
+    map.find_each(&["Amt", "c", "Fun", "Amt"], &mut found);
+    assert_eq!(rt; (found[0], found[1]), (Some(Item::Negative(1)), None));
+    assert_eq!(rt;
+        (found[2], found[3]),
+        (Some(Item::Bool(true)), Some(Item::Negative(1)))
+    );
     let (Some(Item::List(list)), Some(Item::Map(inner))) = (map.find("a"), map.find("b")) else {
         return assert!(rt; false, "a is no list, or b no map");
     };
@@ -240,6 +247,32 @@ fn hostile(rt: HostRuntime) {
             );
         }
         Err(fault) => assert!(rt; false, "{fault:?}"),
+    }
+}
+
+/// A map without a count of 494 keys, but for its break.
+fn many_keys() -> ArrayVec<u8, 2048> {
+    let mut data = ArrayVec::new();
+    let _ = data.try_push(0xbf);
+    for high in b'A'..=b'Z' {
+        for low in b'a'..=b's' {
+            let _ = data.try_extend_from_slice(&[0x62, high, low, 0]);
+        }
+    }
+    data
+}
+
+#[test]
+fn repeats_late(rt: HostRuntime) {
+    // The first key, those on either side of the last that is kept, and the last.
+    for key in [b"Aa", b"Sb", b"Sc", b"Zs"] {
+        let mut data = many_keys();
+        let _ = data.try_extend_from_slice(&[0x62, key[0], key[1], 0, 0xff]);
+        let fault = CborFault {
+            at: 1977,
+            kind: CborKind::Repeated,
+        };
+        assert_eq!(rt; read_map(data.as_slice()), Err(fault), "{key:?}");
     }
 }
 

@@ -1,11 +1,13 @@
 //! Maps, lists and items that lend the bytes that they were read from.
 
-ghost use Rattle.std.specs.Prelude.{◌≡◌, ◌∷◌, [], length, option_map, IfSome, IfNone, MatchOption};
+ghost use Rattle.std.specs.Prelude.{◌≡◌, ◌∷◌, [], length, Ok, Some, None, option_map, if◌then◌else◌, IfSome, IfNone, MatchOption};
+ghost use Rattle.std.specs.Str.{bytes_eq};
 ghost use Rattle.smp_cbor.specs.Values.{value_at, list_values, map_entries};
-ghost use Rattle.smp_cbor.specs.Views.{IsPart, entries, rest_of, value_of, look_up, map_bytes, list_bytes, item_bytes};
+ghost use Rattle.smp_cbor.specs.Walks.{texts_of};
+ghost use Rattle.smp_cbor.specs.Views.{IsPart, entries, rest_of, value_of, values_of, look_up, look_up_each, or_else, or_else_each, noted, after_first, map_bytes, list_bytes, item_bytes};
 
 use crate::heads::Head;
-use crate::keys::{key_at, key_or_wanted, pairs_of};
+use crate::keys::{key_at, pairs_of};
 use crate::skipping::{after_break, head_at, octets_of, skip_item, text_of, turns_of};
 
 /// A value. Strings, lists and maps lend the bytes that they were read from.
@@ -77,6 +79,27 @@ fn item_of(depth: u8, bytes: &[u8]) -> Item<'_>
     }
 }
 
+/// Notes the item at the front in the place of its key, where nothing was noted before.
+fn note<'a>(found: &mut [Option<Item<'a>>], keys: &[&str], key: &[u8], depth: u8, bytes: &'a [u8])
+    requires { length found.old ≡ length keys.now }
+    ensures { let value = value_at depth bytes.now in
+        values_of found.new ≡ noted key.now value (texts_of keys.now) (values_of found.old) }
+{
+    for (i, wanted) in keys.iter().enumerate() {
+        note_in(&mut found[i], wanted, key, depth, bytes);
+    }
+}
+
+/// Notes the item at the front in one place.
+fn note_in<'a>(place: &mut Option<Item<'a>>, wanted: &str, key: &[u8], depth: u8, bytes: &'a [u8])
+    ensures { let value = (if bytes_eq key.now wanted.now then Some (value_at depth bytes.now) else None) in
+        option_map value_of place.new ≡ or_else (option_map value_of place.old) value }
+{
+    if place.is_none() && key == wanted.as_bytes() {
+        *place = Some(item_of(depth, bytes));
+    }
+}
+
 impl<'a> MapView<'a> {
     /// The pairs behind a map's head, in which lists, maps and tags may stand `depth` deep.
     pub(crate) fn behind_head(depth: u8, count: Option<u64>, content: &'a [u8]) -> Self
@@ -102,10 +125,10 @@ impl<'a> MapView<'a> {
             if after_break(self.until_break, rest).is_some() {
                 return None;
             }
-            let Ok((other, after)) = key_or_wanted(rest, key) else {
+            let Ok((other, after)) = key_at(rest) else {
                 return None;
             };
-            if other == key {
+            if other == key.as_bytes() {
                 return Some(item_of(self.depth, after));
             }
             let Ok(next) = skip_item(self.depth, after) else {
@@ -114,6 +137,30 @@ impl<'a> MapView<'a> {
             rest = next;
         }
         None
+    }
+
+    /// Finds the value of each key, all in one walk over the pairs. Each place of `found` that is `None` gets
+    /// the value of the key in the same place of `keys`, where the map has that key. A place that holds a
+    /// value keeps it.
+    pub fn find_each(&self, keys: &[&str], found: &mut [Option<Item<'a>>])
+        requires { length found.old ≡ length keys.now }
+        ensures { let values = look_up_each (texts_of keys.now) (entries self.now) in
+            values_of found.new ≡ or_else_each (values_of found.old) values }
+    {
+        let mut rest = self.bytes;
+        for _ in 0..self.turns {
+            if after_break(self.until_break, rest).is_some() {
+                return;
+            }
+            let Ok((key, after)) = key_at(rest) else {
+                return;
+            };
+            note(found, keys, key, self.depth, after);
+            let Ok(next) = skip_item(self.depth, after) else {
+                return;
+            };
+            rest = next;
+        }
     }
 
     /// How many pairs there are.
@@ -155,10 +202,12 @@ impl<'a> ListView<'a> {
     /// Takes the next value, or answers `None` at the end.
     #[tactic(auto, unfolding(crate::specs::Values::values_from))]
     pub fn next(&mut self) -> Option<Item<'a>>
-        ensures value { MatchOption result (rest_of self.old ≡ []) (λ item. rest_of self.old ≡ value_of item ∷ rest_of self.new) }
+        ensures value { MatchOption result (rest_of self.old ≡ [])
+            (λ item. rest_of self.old ≡ value_of item ∷ rest_of self.new) }
         ensures end { IfNone result (self.new ≡ self.old) }
         ensures lent { IfSome result (λ item. IsPart (item_bytes item) (list_bytes self.old)) }
-        ensures left { IsPart (list_bytes self.new) (list_bytes self.old) }
+        ensures left { IfSome result (λ item. after_first self.old ≡ Ok (list_bytes self.new)) }
+        ensures part { IsPart (list_bytes self.new) (list_bytes self.old) }
     {
         if self.turns == 0 {
             return None;

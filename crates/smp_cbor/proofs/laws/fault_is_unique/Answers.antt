@@ -1,5 +1,5 @@
 use Rattle.std.proofs.Common.{arith}
-use Rattle.smp_cbor.proofs.OneFault.{one_fault}
+use Rattle.smp_cbor.proofs.FaultIsUnique.{one_fault}
 use Rattle.smp_cbor.proofs.laws.fault_is_unique.Goals as goal
 
 pub returns : goal.returns

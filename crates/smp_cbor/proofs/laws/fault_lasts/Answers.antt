@@ -1,5 +1,5 @@
 use Rattle.std.proofs.Common.{arith}
-use Rattle.smp_cbor.proofs.Cuts.{lasting_fault}
+use Rattle.smp_cbor.proofs.CutAtFault.{lasting_fault}
 use Rattle.smp_cbor.proofs.laws.fault_lasts.Goals as goal
 
 pub returns : goal.returns

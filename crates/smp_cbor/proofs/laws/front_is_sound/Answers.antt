@@ -1,4 +1,4 @@
-use Rattle.smp_cbor.proofs.Cuts.{sound_front}
+use Rattle.smp_cbor.proofs.CutAtFault.{sound_front}
 use Rattle.smp_cbor.proofs.laws.front_is_sound.Goals as goal
 
 pub returns : goal.returns

@@ -1,5 +1,5 @@
 use Rattle.std.proofs.Common.{arith}
-use Rattle.smp_cbor.proofs.OneFault.{no_fault}
+use Rattle.smp_cbor.proofs.FaultIsUnique.{no_fault}
 use Rattle.smp_cbor.proofs.laws.map_has_no_fault.Goals as goal
 
 pub returns : goal.returns

@@ -3,10 +3,10 @@ use Rattle.smp_cbor.specs.declared.fault.Stop.{Stop}
 use Rattle.smp_cbor.specs.Values.{Value, pairs}
 use Rattle.smp_cbor.specs.Views.{entries}
 use Rattle.smp_cbor.proofs.Maps.{map_found, map_again}
-use Rattle.smp_cbor.proofs.Refusing.{map_refused}
+use Rattle.smp_cbor.proofs.FaultIsRefused.{map_refused}
 use Rattle.smp_cbor.specs.Faults.{StopsMap}
 use Rattle.smp_cbor.proofs.Results.{ok_is, err_is, not_ok}
-use Rattle.smp_cbor.proofs.FirstFault.{map_stops, map_within}
+use Rattle.smp_cbor.proofs.RefusedMap.{map_stops, map_within}
 use Rattle.smp_cbor.proofs.reading.read_map.Goals as goal
 
 pub returns-in-Ok-clause-found : goal.returns-in-Ok-clause-found

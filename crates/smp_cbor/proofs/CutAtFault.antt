@@ -15,9 +15,9 @@ use Rattle.smp_cbor.specs.Laws.{HasSoundFront, HasLastingFault}
 use Rattle.smp_cbor.proofs.HeadLaws.{IsBytes, head_takes, head_again}
 use Rattle.smp_cbor.proofs.Takes.{IsBytes-after}
 use Rattle.smp_cbor.proofs.Again.{again, reads_some}
-use Rattle.smp_cbor.proofs.Stopping.{head_fails}
-use Rattle.smp_cbor.proofs.FirstFault.{head_is, no_head_is, head_at_nil, stops_within, pairs_within}
-use Rattle.smp_cbor.proofs.Refusing.{head_refuses, stops_refused, stop_nothing, skip_headless, same_stop}
+use Rattle.smp_cbor.proofs.RefusedHead.{head_fails}
+use Rattle.smp_cbor.proofs.RefusedMap.{head_is, no_head_is, head_at_nil, stops_within, pairs_within}
+use Rattle.smp_cbor.proofs.FaultIsRefused.{head_refuses, stops_refused, stop_nothing, skip_headless, same_stop}
 use Rattle.smp_cbor.proofs.Endings.{spells_map}
 
 -- ---- cut at the fault

@@ -6,7 +6,7 @@ use Rattle.smp_cbor.specs.Laws.{HasOneFault, HasNoFaultWhereMap}
 use Rattle.smp_cbor.proofs.Results.{err_is, not_ok}
 use Rattle.smp_cbor.proofs.HeadLaws.{IsBytes}
 use Rattle.smp_cbor.proofs.Maps.{map_again}
-use Rattle.smp_cbor.proofs.Refusing.{map_refused}
+use Rattle.smp_cbor.proofs.FaultIsRefused.{map_refused}
 
 -- a place by what is left after it
 left_at : (n at at' : ℕ) → at ≤ n → at' ≤ n → n - at ≡ n - at' → at ≡ at'

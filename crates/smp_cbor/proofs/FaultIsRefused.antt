@@ -1,4 +1,4 @@
--- What stops by the definition is refused there by reading: so a fault is the only one, and stands in no map.
+-- What stops by the definition is refused there by reading.
 use Rattle.std.proofs.Common.{◌≡◌, ◌≢◌, ℕ, zero, suc, ◌+◌, ◌-◌, ◌/◌, ◌%◌, ◌<◌, ◌≤◌, Bool, true, false, ◌&&◌, eqb, ltb, ◌⊎◌, List, [], ◌∷◌, ◌++◌, length, Option, Some, None, Result, Ok, Err, refl, sym, ap, subst, ◌∙◌, append_assoc, arith, inl, inr}
 use Rattle.std.specs.Prelude.{is_none}
 use Rattle.std.specs.Int.{Width, w16, w32, w64, byte_len}
@@ -22,7 +22,7 @@ use Rattle.smp_cbor.proofs.HeadLaws.{IsBytes, head_takes, head_again}
 use Rattle.smp_cbor.proofs.Again.{ReadsEach, again, again_each, reads_some, each_length, goes_on, items_again, both_again, octets_again}
 use Rattle.smp_cbor.proofs.Takes.{IsBytes-after}
 use Rattle.smp_cbor.proofs.Maps.{map_head, five}
-use Rattle.smp_cbor.proofs.FirstFault.{one_pair, head_at_nil}
+use Rattle.smp_cbor.proofs.RefusedMap.{one_pair, head_at_nil}
 
 -- ---- heads
 

@@ -1,4 +1,4 @@
--- An item that is refused stops at its first refused head.
+-- An item that reading refuses stops at its first refused head.
 use Rattle.std.proofs.Common.{◌≡◌, ℕ, zero, suc, ◌+◌, ◌*◌, ◌<◌, ◌≤◌, Bool, true, false, cond, ltb, ◌⊎◌, List, [], ◌∷◌, ◌++◌, length, drop, Option, Some, None, Result, Ok, Err, refl, sym, ap, subst, ◌∙◌, append_assoc, arith, inl, inr}
 use Rattle.std.specs.Str.{IsUtf8, is_utf8}
 use Rattle.std.proofs.lemmas.Bool.Decides.{nat_tests}
@@ -19,7 +19,7 @@ use Rattle.smp_cbor.proofs.Results.{chosen, done, err_is, not_err, bind_ok, bind
 use Rattle.smp_cbor.proofs.HeadLaws.{IsBytes, Begins, head_takes}
 use Rattle.smp_cbor.proofs.Again.{again, reads_some}
 use Rattle.smp_cbor.proofs.Takes.{placed_ok, Item, Several, single, both, one_item, joined, count-joined, each_joined, IsBytes-after, octets_takes, takes}
-use Rattle.smp_cbor.proofs.Stopping.{head_fails}
+use Rattle.smp_cbor.proofs.RefusedHead.{head_fails}
 
 pub placed_err : {A : Type 0} (b : List ℕ) (r : Result A CborKind) (s : Stop) → placed b r ≡ Err s → (k : CborKind) × (r ≡ Err k) × (s ≡ stop_at b k)
 placed_err b (Ok x) s e = not_err x s e

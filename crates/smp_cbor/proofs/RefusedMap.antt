@@ -1,4 +1,4 @@
--- Bytes that are no map stop at the first fault.
+-- A map that reading refuses stops at its first fault.
 use Rattle.std.proofs.Common.{◌≡◌, ◌≢◌, ℕ, zero, suc, ◌+◌, ◌*◌, ◌/◌, ◌<◌, ◌≤◌, true, false, cond, eqb, ◌⊎◌, List, [], ◌∷◌, ◌++◌, length, drop, Option, Some, None, Result, Ok, Err, refl, sym, ap, subst, ◌∙◌, append_assoc, arith, inl, inr}
 use Rattle.std.proofs.lemmas.Bool.Decides.{nat_tests}
 use Rattle.std.proofs.lemmas.List.{length-append}
@@ -17,8 +17,8 @@ use Rattle.smp_cbor.proofs.HeadLaws.{IsBytes, Begins, head_takes, head_again, lo
 use Rattle.smp_cbor.proofs.Again.{again}
 use Rattle.smp_cbor.proofs.Maps.{content_reads}
 use Rattle.smp_cbor.proofs.Takes.{placed_ok, IsBytes-after, text_takes, takes}
-use Rattle.smp_cbor.proofs.Stopping.{head_fails}
-use Rattle.smp_cbor.proofs.Stops.{placed_err, refused, leaf_stops, item_shrinks}
+use Rattle.smp_cbor.proofs.RefusedHead.{head_fails}
+use Rattle.smp_cbor.proofs.RefusedItem.{placed_err, refused, leaf_stops, item_shrinks}
 
 -- a head is the only head there
 pub head_is : (b h u : List ℕ) (hd hd' : Head) (rest : List ℕ) → head_at b ≡ Ok (hd, rest) → IsHead h hd' → b ≡ h ++ u → hd ≡ hd'
