@@ -11,8 +11,8 @@ ghost use Rattle.smp_model.specs.Meant.{meant_of};
 ghost use Rattle.smp_model.specs.Meaning.{bare, by_row, fields, filled, meaning, or_invalid};
 ghost use Rattle.smp_request.specs.Room.{HasRoom};
 
-use crate::fields::{bytes_at, number_at, text_at, truth_at};
-use smp_cbor::{MapView, read_map};
+use crate::fields::{bytes_of, number_of, text_of, truth_of};
+use smp_cbor::{MapView, read_map, texts_take_their_bytes};
 use smp_header::Packet;
 use smp_model::error::{INVALID_VALUE, NOT_SUPPORTED, VERSION_TOO_NEW};
 use smp_model::{Request, UploadPart};
@@ -90,8 +90,9 @@ fn echo<'a>(bytes: &'a [u8]) -> Result<Request<'a>, u32>
     ensures means { Gives meant_of result (by_row (Some echo_row) bytes.now) }
     ensures room { IfOk result (λ request. HasRoom (meant_of request) (length bytes.now)) }
 {
+    texts_take_their_bytes(bytes);
     let map = data_of(bytes)?;
-    match text_at(&map, "d")? {
+    match text_of(map.find("d"))? {
         Some(text) => Ok(Request::Echo(text)),
         None => Err(INVALID_VALUE),
     }
@@ -101,8 +102,11 @@ fn echo<'a>(bytes: &'a [u8]) -> Result<Request<'a>, u32>
 fn image_set<'a>(map: &MapView<'a>) -> Result<Request<'a>, u32>
     ensures { Gives meant_of result (filled image_set_row (entries map.now)) }
 {
-    let hash = bytes_at(map, "hash")?;
-    let confirm = truth_at(map, "confirm")?.unwrap_or(false);
+    let mut found = [None; 2];
+    map.find_each(&["hash", "confirm"], &mut found);
+    let [hash, confirm] = found;
+    let hash = bytes_of(hash)?;
+    let confirm = truth_of(confirm)?.unwrap_or(false);
     Ok(Request::ImageSet { hash, confirm })
 }
 
@@ -110,12 +114,18 @@ fn image_set<'a>(map: &MapView<'a>) -> Result<Request<'a>, u32>
 fn upload<'a>(map: &MapView<'a>) -> Result<Request<'a>, u32>
     ensures { Gives meant_of result (filled upload_row (entries map.now)) }
 {
-    let image = number_at(map, "image")?;
-    let len = number_at(map, "len")?;
-    let off = number_at(map, "off")?.ok_or(INVALID_VALUE)?;
-    let sha = bytes_at(map, "sha")?;
-    let bytes = bytes_at(map, "data")?.ok_or(INVALID_VALUE)?;
-    let _ = truth_at(map, "upgrade")?;
+    let mut found = [None; 6];
+    map.find_each(
+        &["image", "len", "off", "sha", "data", "upgrade"],
+        &mut found,
+    );
+    let [image, len, off, sha, bytes, upgrade] = found;
+    let image = number_of(image)?;
+    let len = number_of(len)?;
+    let off = number_of(off)?.ok_or(INVALID_VALUE)?;
+    let sha = bytes_of(sha)?;
+    let bytes = bytes_of(bytes)?.ok_or(INVALID_VALUE)?;
+    let _ = truth_of(upgrade)?;
     Ok(Request::Upload(UploadPart {
         image,
         off,
@@ -128,7 +138,7 @@ fn upload<'a>(map: &MapView<'a>) -> Result<Request<'a>, u32>
 fn erase<'a>(map: &MapView<'a>) -> Result<Request<'a>, u32>
     ensures { Gives meant_of result (filled erase_row (entries map.now)) }
 {
-    let slot = number_at(map, "slot")?.unwrap_or(1);
+    let slot = number_of(map.find("slot"))?.unwrap_or(1);
     Ok(Request::Erase { slot })
 }
 
@@ -137,31 +147,40 @@ fn name<'a>(map: &MapView<'a>) -> Result<&'a str, u32>
     ensures { Gives (λ t. Some (words t.now) ∷ []) result
         (fields (table stat_group_row).keys (entries map.now)) }
 {
-    text_at(map, "name")?.ok_or(INVALID_VALUE)
+    text_of(map.find("name"))?.ok_or(INVALID_VALUE)
 }
 
 #[tactic(auto, using(crate::proofs::Again::fields_again))]
 fn setting_read<'a>(map: &MapView<'a>) -> Result<Request<'a>, u32>
     ensures { Gives meant_of result (filled setting_read_row (entries map.now)) }
 {
-    let name = text_at(map, "name")?.ok_or(INVALID_VALUE)?;
-    let max_size = number_at(map, "max_size")?;
+    let mut found = [None; 2];
+    map.find_each(&["name", "max_size"], &mut found);
+    let [name, max_size] = found;
+    let name = text_of(name)?.ok_or(INVALID_VALUE)?;
+    let max_size = number_of(max_size)?;
     Ok(Request::SettingRead { name, max_size })
 }
 
 fn setting_write<'a>(map: &MapView<'a>) -> Result<Request<'a>, u32>
     ensures { Gives meant_of result (filled setting_write_row (entries map.now)) }
 {
-    let name = text_at(map, "name")?.ok_or(INVALID_VALUE)?;
-    let val = bytes_at(map, "val")?.ok_or(INVALID_VALUE)?;
+    let mut found = [None; 2];
+    map.find_each(&["name", "val"], &mut found);
+    let [name, val] = found;
+    let name = text_of(name)?.ok_or(INVALID_VALUE)?;
+    let val = bytes_of(val)?.ok_or(INVALID_VALUE)?;
     Ok(Request::SettingWrite { name, val })
 }
 
 fn file_read<'a>(map: &MapView<'a>) -> Result<Request<'a>, u32>
     ensures { Gives meant_of result (filled file_read_row (entries map.now)) }
 {
-    let off = number_at(map, "off")?.ok_or(INVALID_VALUE)?;
-    let name = text_at(map, "name")?.ok_or(INVALID_VALUE)?;
+    let mut found = [None; 2];
+    map.find_each(&["off", "name"], &mut found);
+    let [off, name] = found;
+    let off = number_of(off)?.ok_or(INVALID_VALUE)?;
+    let name = text_of(name)?.ok_or(INVALID_VALUE)?;
     Ok(Request::FileRead { name, off })
 }
 
@@ -169,10 +188,13 @@ fn file_read<'a>(map: &MapView<'a>) -> Result<Request<'a>, u32>
 fn file_write<'a>(map: &MapView<'a>) -> Result<Request<'a>, u32>
     ensures { Gives meant_of result (filled file_write_row (entries map.now)) }
 {
-    let off = number_at(map, "off")?.ok_or(INVALID_VALUE)?;
-    let bytes = bytes_at(map, "data")?.ok_or(INVALID_VALUE)?;
-    let len = number_at(map, "len")?;
-    let name = text_at(map, "name")?.ok_or(INVALID_VALUE)?;
+    let mut found = [None; 4];
+    map.find_each(&["off", "data", "len", "name"], &mut found);
+    let [off, bytes, len, name] = found;
+    let off = number_of(off)?.ok_or(INVALID_VALUE)?;
+    let bytes = bytes_of(bytes)?.ok_or(INVALID_VALUE)?;
+    let len = number_of(len)?;
+    let name = text_of(name)?.ok_or(INVALID_VALUE)?;
     Ok(Request::FileWrite {
         name,
         off,
@@ -185,10 +207,13 @@ fn file_write<'a>(map: &MapView<'a>) -> Result<Request<'a>, u32>
 fn file_hash<'a>(map: &MapView<'a>) -> Result<Request<'a>, u32>
     ensures { Gives meant_of result (filled file_hash_row (entries map.now)) }
 {
-    let name = text_at(map, "name")?.ok_or(INVALID_VALUE)?;
-    let kind = text_at(map, "type")?;
-    let off = number_at(map, "off")?.unwrap_or(0);
-    let len = number_at(map, "len")?;
+    let mut found = [None; 4];
+    map.find_each(&["name", "type", "off", "len"], &mut found);
+    let [name, kind, off, len] = found;
+    let name = text_of(name)?.ok_or(INVALID_VALUE)?;
+    let kind = text_of(kind)?;
+    let off = number_of(off)?.unwrap_or(0);
+    let len = number_of(len)?;
     Ok(Request::FileHash {
         name,
         kind,
