@@ -22,6 +22,26 @@ fn reads_each_field(rt: HostRuntime) -> Result<(), Fail> {
     Ok(())
 }
 
+/// The bytes of a packet whose data are so many zeros.
+fn zeros(length: u16) -> ArrayVec<u8, 4096> {
+    let mut bytes = ArrayVec::new();
+    let [high, low] = length.to_be_bytes();
+    let _ = bytes.try_extend_from_slice(&[2, 0, high, low, 0, 0, 1, 0]);
+    for _ in 0..length {
+        let _ = bytes.try_push(0);
+    }
+    bytes
+}
+
+#[test]
+fn bounds_the_length(rt: HostRuntime) {
+    for (length, is_packet) in [(0, true), (2040, true), (2041, false), (4088, false)] {
+        let bytes = zeros(length);
+        assert_eq!(rt; bytes.len(), usize::from(length) + 8);
+        assert_eq!(rt; read_packet(bytes.as_slice()).is_some(), is_packet);
+    }
+}
+
 #[test]
 fn writes_each_field(rt: HostRuntime) {
     let mut out = ArrayVec::new();
