@@ -18,9 +18,7 @@ use crate::answer::Asked;
 use smp_cbor::shortest_is_read;
 use smp_header::{LARGEST_PACKET, Packet};
 use smp_model::memory::{bytes_are_counted, hashes_have_32_bytes, texts_are_utf8};
-use smp_model::{
-    Reply, SidePair, SlotEntry, Version, keys_are_texts, plain_maps_are_written,
-};
+use smp_model::{Reply, SidePair, SlotEntry, Version, keys_are_texts, plain_maps_are_written};
 
 /// What [`write_reply`](crate::write_reply) writes is a packet, and reading its data gives the answer that the reply
 /// stands for, whatever kind of answer is asked for. The call does nothing: it stands for the law.

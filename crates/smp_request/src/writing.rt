@@ -183,13 +183,7 @@ fn write_setting_write(out: &mut PacketBuffer, name: &str, val: &[u8])
     put_bytes(out, "val", Some(val));
 }
 
-fn write_file_write(
-    out: &mut PacketBuffer,
-    off: u32,
-    bytes: &[u8],
-    len: Option<u32>,
-    name: &str,
-)
+fn write_file_write(out: &mut PacketBuffer, off: u32, bytes: &[u8], len: Option<u32>, name: &str)
     requires { array_vec_len out.old + length (data_of (file_write off bytes.now len name.now))
         ≤ LARGEST_PACKET }
     ensures { out.new.items ≡ out.old.items ++ data_of (file_write off bytes.now len name.now) }

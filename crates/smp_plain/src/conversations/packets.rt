@@ -88,45 +88,71 @@ fn add_entry(
     Ok(())
 }
 
+/// The packet that sets an image by its hash.
+fn set(alloc: Global, image: &Octets) -> Result<Vec<u8>, AllocError> {
+    let mut data = Vec::from_slice(alloc, b"\xa1\x64hash\x58\x20")?;
+    data.extend_from_slice(&Sha256::digest(cut(image.as_slice(), 0, 40)))?;
+    packet(alloc, 2, 0, data.as_slice())
+}
+
+/// A device of two images, where slot 1 is pending with this image, and slot 3 holds the other.
+fn half_pending(
+    alloc: Global,
+    pending: &Octets,
+    other: &Octets,
+) -> Result<AbstractDevice, AllocError> {
+    let mut device = formatted_two(alloc)?;
+    device.first.upload = complete(alloc, pending)?;
+    device.first.pending = Some(Mark::Test);
+    let mut second = formatted_side(alloc)?;
+    second.upload = complete(alloc, other)?;
+    device.second = Some(second);
+    Ok(device)
+}
+
+#[test]
+fn an_image_that_runs_as_image_0(rt: HostRuntime) -> Result<(), Fail> {
+    let alloc = rt.alloc();
+    let (image, old) = (other_image(alloc)?, formatted_side(alloc)?.active);
+    let device = half_pending(alloc, &image, &old)?;
+    let refused = b"\x0b\0\0\x12\0\x01\0\0\xa1\x63err\xa2\x65group\x01\x62rc\x18\x21";
+    turn(&rt, alloc, &device, set(alloc, &old)?.as_slice(), refused)?;
+    Ok(())
+}
+
+/// The list where the images of slots 1 and 3 are pending.
+fn both_pending(alloc: Global, one: &Octets, three: &Octets) -> Result<Vec<u8>, AllocError> {
+    let old = formatted_side(alloc)?.active;
+    let mut list = Vec::from_slice(alloc, b"\xa1\x66images\x84")?;
+    add_entry(&mut list, [0, 0], &old, [false, true])?;
+    add_entry(&mut list, [0, 1], one, [true, false])?;
+    add_entry(&mut list, [1, 0], &old, [false, true])?;
+    add_entry(&mut list, [1, 1], three, [true, false])?;
+    packet(alloc, 3, 0, list.as_slice())
+}
+
 #[test]
 fn both_images_pending(rt: HostRuntime) -> Result<(), Fail> {
     let alloc = rt.alloc();
-    let (image, old) = (other_image(alloc)?, formatted_side(alloc)?.active);
-    let hash = Sha256::digest(cut(image.as_slice(), 0, 40));
-    let mut device = formatted_two(alloc)?;
-    device.first.upload = complete(alloc, &image)?;
-    device.first.pending = Some(Mark::Test);
-    let mut second = formatted_side(alloc)?;
-    second.upload = complete(alloc, &old)?;
-    device.second = Some(second);
-    // the image in slot 3 is the one that runs in slot 0, which is meant first
-    let mut set = Vec::from_slice(alloc, b"\xa1\x64hash\x58\x20")?;
-    set.extend_from_slice(&Sha256::digest(cut(old.as_slice(), 0, 40)))?;
-    let set = packet(alloc, 2, 0, set.as_slice())?;
-    let refused = packet(alloc, 3, 0, b"\xa1\x63err\xa2\x65group\x01\x62rc\x18\x21")?;
-    let device = turn(&rt, alloc, &device, set.as_slice(), refused.as_slice())?;
-    // another image in slot 3, set by its hash
-    let mut device = device;
-    let mut second = formatted_side(alloc)?;
-    let newer = third_image(alloc)?;
-    second.upload = complete(alloc, &newer)?;
-    device.second = Some(second);
-    let mut set = Vec::from_slice(alloc, b"\xa1\x64hash\x58\x20")?;
-    set.extend_from_slice(&Sha256::digest(cut(newer.as_slice(), 0, 40)))?;
-    let set = packet(alloc, 2, 0, set.as_slice())?;
-    let mut list = Vec::from_slice(alloc, b"\xa1\x66images\x84")?;
-    add_entry(&mut list, [0, 0], &old, [false, true])?;
-    add_entry(&mut list, [0, 1], &image, [true, false])?;
-    add_entry(&mut list, [1, 0], &old, [false, true])?;
-    add_entry(&mut list, [1, 1], &newer, [true, false])?;
-    let due = packet(alloc, 3, 0, list.as_slice())?;
-    let device = turn(&rt, alloc, &device, set.as_slice(), due.as_slice())?;
-    assert!(rt; holds(&device, &image));
-    assert!(rt; device.counters.handled == 2 && device.counters.errors == 1);
-    let mut set = Vec::from_slice(alloc, b"\xa1\x64hash\x58\x20")?;
-    set.extend_from_slice(&hash)?;
-    let set = packet(alloc, 2, 0, set.as_slice())?;
-    turn(&rt, alloc, &device, set.as_slice(), due.as_slice())?;
+    let (one, three) = (other_image(alloc)?, third_image(alloc)?);
+    let device = half_pending(alloc, &one, &three)?;
+    let due = both_pending(alloc, &one, &three)?;
+    let device = turn(
+        &rt,
+        alloc,
+        &device,
+        set(alloc, &three)?.as_slice(),
+        due.as_slice(),
+    )?;
+    assert!(rt; holds(&device, &one));
+    let device = turn(
+        &rt,
+        alloc,
+        &device,
+        set(alloc, &one)?.as_slice(),
+        due.as_slice(),
+    )?;
+    assert!(rt; device.counters.handled == 2 && device.counters.errors == 0);
     Ok(())
 }
 
@@ -154,71 +180,83 @@ fn tagged(alloc: Global, off: u16, tag: &[u8], part: &[u8]) -> Result<Vec<u8>, A
     packet(alloc, 2, 1, data.as_slice())
 }
 
-#[test]
-fn parts_with_foreign_tags(rt: HostRuntime) -> Result<(), Fail> {
-    let alloc = rt.alloc();
-    let (one, other) = (file(alloc, 1000, 0)?, file(alloc, 800, 1)?);
-    let (one, other) = (one.as_slice(), other.as_slice());
-    let (own, foreign) = (Sha256::digest(one), Sha256::digest(other));
+/// A device with the first 480 bytes of a file of 1000, announced with its digest.
+fn with_file(alloc: Global, one: &[u8]) -> Result<AbstractDevice, AllocError> {
     let mut device = formatted(alloc)?;
     device.first.upload = Some(Upload {
         announcement: Announcement {
             length: 1000,
-            digest: Some(own),
+            digest: Some(Sha256::digest(one)),
         },
         accepted: Octets::from_slice(alloc, cut(one, 0, 480))?,
     });
+    Ok(device)
+}
+
+const AT_480: &[u8] = b"\x0b\0\0\x08\0\x01\0\x01\xa1\x63off\x19\x01\xe0";
+
+#[test]
+fn a_part_with_a_foreign_tag(rt: HostRuntime) -> Result<(), Fail> {
+    let alloc = rt.alloc();
+    let (one, other) = (file(alloc, 1000, 0)?, file(alloc, 800, 1)?);
+    let (one, other) = (one.as_slice(), other.as_slice());
+    let foreign = Sha256::digest(other);
+    let device = with_file(alloc, one)?;
     let stale = tagged(alloc, 480, &foreign, cut(other, 480, 800))?;
-    let wanted = b"\x0b\0\0\x08\0\x01\0\x01\xa1\x63off\x19\x01\xe0";
-    let device = turn(&rt, alloc, &device, stale.as_slice(), wanted)?;
-    let few = tagged(alloc, 480, cut(&own, 0, 31), cut(one, 480, 800))?;
-    let invalid = b"\x0b\0\0\x12\0\x01\0\x01\xa1\x63err\xa2\x65group\x01\x62rc\x18\x18";
-    let device = turn(&rt, alloc, &device, few.as_slice(), invalid)?;
-    let next = tagged(alloc, 480, &own, cut(one, 480, 800))?;
+    let device = turn(&rt, alloc, &device, stale.as_slice(), AT_480)?;
+    let own = tagged(alloc, 480, &Sha256::digest(one), cut(one, 480, 800))?;
     let at_800 = b"\x0b\0\0\x08\0\x01\0\x01\xa1\x63off\x19\x03\x20";
-    turn(&rt, alloc, &device, next.as_slice(), at_800)?;
+    turn(&rt, alloc, &device, own.as_slice(), at_800)?;
     let at_0 = b"\x0b\0\0\x06\0\x01\0\x01\xa1\x63off\0";
-    turn(&rt, alloc, &formatted(alloc)?, next.as_slice(), at_0)?;
+    turn(&rt, alloc, &formatted(alloc)?, own.as_slice(), at_0)?;
     Ok(())
 }
 
 #[test]
-fn drops_echoes_and_resets(rt: HostRuntime) -> Result<(), Fail> {
+fn a_tag_of_31_bytes(rt: HostRuntime) -> Result<(), Fail> {
+    let alloc = rt.alloc();
+    let one = file(alloc, 1000, 0)?;
+    let one = one.as_slice();
+    let own = Sha256::digest(one);
+    let few = tagged(alloc, 480, cut(&own, 0, 31), cut(one, 480, 800))?;
+    let invalid = b"\x0b\0\0\x12\0\x01\0\x01\xa1\x63err\xa2\x65group\x01\x62rc\x18\x18";
+    turn(&rt, alloc, &with_file(alloc, one)?, few.as_slice(), invalid)?;
+    Ok(())
+}
+
+#[test]
+fn dropped_packets(rt: HostRuntime) -> Result<(), Fail> {
+    let alloc = rt.alloc();
+    let device = turn(&rt, alloc, &formatted(alloc)?, b"\x0a\0\0\x01\0", b"")?;
+    let device = turn(&rt, alloc, &device, b"\x0b\0\0\0\0\0\0\0", b"")?;
+    assert!(rt; device.counters.dropped == 2 && device.counters.handled == 0);
+    Ok(())
+}
+
+#[test]
+fn an_echo_and_two_refusals(rt: HostRuntime) -> Result<(), Fail> {
+    let alloc = rt.alloc();
+    let echo = b"\x02\0\0\x06\0\0\x09\0\xa1\x61d\x62hi";
+    let echoed = b"\x03\0\0\x06\0\0\x09\0\xa1\x61r\x62hi";
+    let device = turn(&rt, alloc, &formatted(alloc)?, echo, echoed)?;
+    let newer = b"\x12\0\0\x06\0\0\x09\0\xa1\x61d\x62hi";
+    let too_new = b"\x0b\0\0\x05\0\0\x09\0\xa1\x62rc\x0d";
+    let device = turn(&rt, alloc, &device, newer, too_new)?;
+    let unknown = b"\x0a\0\0\0\0\x40\x09\0";
+    let unsupported = b"\x0b\0\0\x05\0\x40\x09\0\xa1\x62rc\x08";
+    let device = turn(&rt, alloc, &device, unknown, unsupported)?;
+    assert!(rt; device.counters.handled == 3 && device.counters.errors == 2);
+    Ok(())
+}
+
+#[test]
+fn a_reset_forgets_counters_and_the_target(rt: HostRuntime) -> Result<(), Fail> {
     let alloc = rt.alloc();
     let mut device = formatted(alloc)?;
     device.target = 1;
-    let device = turn(&rt, alloc, &device, b"\x0a\0\0\x01\0", b"")?;
-    let device = turn(&rt, alloc, &device, b"\x0b\0\0\0\0\0\0\0", b"")?;
-    assert!(rt; device.counters.dropped == 2 && device.counters.handled == 0);
-    let echo = b"\x02\0\0\x06\0\0\x09\0\xa1\x61d\x62hi";
-    let device = turn(
-        &rt,
-        alloc,
-        &device,
-        echo,
-        b"\x03\0\0\x06\0\0\x09\0\xa1\x61r\x62hi",
-    )?;
-    let newer = b"\x12\0\0\x06\0\0\x09\0\xa1\x61d\x62hi";
-    let device = turn(
-        &rt,
-        alloc,
-        &device,
-        newer,
-        b"\x0b\0\0\x05\0\0\x09\0\xa1\x62rc\x0d",
-    )?;
-    let unknown = b"\x0a\0\0\0\0\x40\x09\0";
-    let device = turn(
-        &rt,
-        alloc,
-        &device,
-        unknown,
-        b"\x0b\0\0\x05\0\x40\x09\0\xa1\x62rc\x08",
-    )?;
-    assert!(rt; device.counters.handled == 3 && device.counters.errors == 2);
-    assert!(rt; device.target == 1);
+    device.counters.handled = 5;
     let reset = b"\x0a\0\0\0\0\0\x09\x05";
     let device = turn(&rt, alloc, &device, reset, b"\x0b\0\0\x01\0\0\x09\x05\xa0")?;
-    assert!(rt; device.counters.handled == 0 && device.counters.dropped == 0);
-    assert!(rt; device.target == 0);
+    assert!(rt; device.counters.handled == 0 && device.target == 0);
     Ok(())
 }

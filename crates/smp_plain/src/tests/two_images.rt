@@ -52,44 +52,76 @@ fn four<'a>(zero: [SlotEntry; 2], one: [SlotEntry; 2]) -> Reply<'a> {
     }
 }
 
+/// The hashes of images.
+fn hashes_of(images: [&Octets; 4]) -> [[u8; 32]; 4] {
+    let [zero, one, two, three] = images;
+    [hash_of(zero), hash_of(one), hash_of(two), hash_of(three)]
+}
+
+/// The list of such a device, with what runs as image 1 confirmed or not, and a mark on slot 1 and on slot 3.
+fn list_of<'a>(images: [&Octets; 4], confirmed: bool, marks: [Option<Mark>; 2]) -> Reply<'a> {
+    let [zero, one, two, three] = hashes_of(images);
+    let [first, second] = marks;
+    four(
+        [first_entry(zero, false), second_entry(one, first)],
+        [first_entry(two, confirmed), second_entry(three, second)],
+    )
+}
+
 #[test]
-fn marks_of_two(rt: HostRuntime) -> Result<(), Fail> {
+fn marks_of_image_1(rt: HostRuntime) -> Result<(), Fail> {
     let alloc = rt.alloc();
-    let (zero, one, two, three) = (
-        image(alloc, 1)?,
-        image(alloc, 2)?,
-        image(alloc, 3)?,
-        image(alloc, 4)?,
-    );
-    let hashes = (
-        hash_of(&zero),
-        hash_of(&one),
-        hash_of(&two),
-        hash_of(&three),
-    );
-    let test = Some(Mark::Test);
-    let (first, third) = (first_entry(hashes.0, false), first_entry(hashes.2, false));
-    let (second, fourth) = (second_entry(hashes.1, test), second_entry(hashes.3, None));
-    let device = with_four(alloc, [&zero, &one, &two, &three], test)?;
-    let list = four([first, second], [third, fourth]);
-    let marked = four([first, second], [third, second_entry(hashes.3, test)]);
-    let for_good = second_entry(hashes.3, Some(Mark::Permanent));
-    let permanent = four([first, second], [third, for_good]);
-    let confirmed = four([first, second], [first_entry(hashes.2, true), fourth]);
-    let confirmed_0 = four([first_entry(hashes.0, true), second], [third, fourth]);
+    let (zero, one) = (image(alloc, 1)?, image(alloc, 2)?);
+    let (two, three) = (image(alloc, 3)?, image(alloc, 4)?);
+    let images = [&zero, &one, &two, &three];
+    let [_, _, two_hash, three_hash] = hashes_of(images);
+    let (test, permanent) = (Some(Mark::Test), Some(Mark::Permanent));
+    let device = with_four(alloc, images, test)?;
     check(
         &rt,
         &device,
         &[
-            (Request::ImageList, list, ""),
-            (set(&hashes.3, false), marked, "m"),
-            (set(&hashes.3, true), permanent, "m"),
-            (set(&hashes.1, false), list, ""),
-            (set(&hashes.1, true), error(1, 28), ""),
-            (set(&hashes.2, true), confirmed, "f"),
-            (set(&hashes.2, false), error(1, 33), ""),
-            (set(&hashes.0, true), confirmed_0, "F"),
-            (set_none(true), confirmed_0, "F"),
+            (Request::ImageList, list_of(images, false, [test, None]), ""),
+            (
+                set(&three_hash, false),
+                list_of(images, false, [test, test]),
+                "m",
+            ),
+            (
+                set(&three_hash, true),
+                list_of(images, false, [test, permanent]),
+                "m",
+            ),
+            (
+                set(&two_hash, true),
+                list_of(images, true, [test, None]),
+                "f",
+            ),
+            (set(&two_hash, false), error(1, 33), ""),
+        ],
+    );
+    Ok(())
+}
+
+#[test]
+fn marks_of_image_0_and_erases(rt: HostRuntime) -> Result<(), Fail> {
+    let alloc = rt.alloc();
+    let (zero, one) = (image(alloc, 1)?, image(alloc, 2)?);
+    let (two, three) = (image(alloc, 3)?, image(alloc, 4)?);
+    let images = [&zero, &one, &two, &three];
+    let [_, one_hash, _, _] = hashes_of(images);
+    let test = Some(Mark::Test);
+    let device = with_four(alloc, images, test)?;
+    check(
+        &rt,
+        &device,
+        &[
+            (
+                set(&one_hash, false),
+                list_of(images, false, [test, None]),
+                "",
+            ),
+            (set(&one_hash, true), error(1, 28), ""),
             (Request::Erase { slot: 1 }, error(1, 9), ""),
             (Request::Erase { slot: 3 }, Reply::Empty, "d"),
             (Request::Erase { slot: 2 }, error(1, 14), ""),
@@ -100,27 +132,50 @@ fn marks_of_two(rt: HostRuntime) -> Result<(), Fail> {
 }
 
 #[test]
-fn the_first_slot_with_a_hash(rt: HostRuntime) -> Result<(), Fail> {
+fn slot_2_before_slot_1(rt: HostRuntime) -> Result<(), Fail> {
     let alloc = rt.alloc();
     let (zero, one, two) = (image(alloc, 1)?, image(alloc, 2)?, image(alloc, 3)?);
-    let hashes = (hash_of(&zero), hash_of(&one), hash_of(&two));
-    let (first, third) = (first_entry(hashes.0, false), first_entry(hashes.2, false));
-    // slot 2 before slot 1
-    let device = with_four(alloc, [&zero, &two, &two, &one], None)?;
-    let (second, fourth) = (second_entry(hashes.2, None), second_entry(hashes.1, None));
-    let due = four([first, second], [first_entry(hashes.2, true), fourth]);
-    check(&rt, &device, &[(set(&hashes.2, true), due, "f")]);
-    check(&rt, &device, &[(set(&hashes.2, false), error(1, 33), "")]);
-    // slot 1 before slot 3
-    let device = with_four(alloc, [&zero, &one, &two, &one], None)?;
-    let second = second_entry(hashes.1, Some(Mark::Test));
-    let due = four([first, second], [third, fourth]);
-    check(&rt, &device, &[(set(&hashes.1, false), due, "M")]);
-    // slot 0 before slot 2
-    let device = with_four(alloc, [&zero, &one, &zero, &one], None)?;
-    let (second, fourth) = (second_entry(hashes.1, None), second_entry(hashes.1, None));
-    let due = four([first_entry(hashes.0, true), second], [first, fourth]);
-    check(&rt, &device, &[(set(&hashes.0, true), due, "F")]);
+    let images = [&zero, &two, &two, &one];
+    let hash = hash_of(&two);
+    let device = with_four(alloc, images, None)?;
+    let due = list_of(images, true, [None, None]);
+    check(
+        &rt,
+        &device,
+        &[
+            (set(&hash, true), due, "f"),
+            (set(&hash, false), error(1, 33), ""),
+        ],
+    );
+    Ok(())
+}
+
+#[test]
+fn slot_1_before_slot_3(rt: HostRuntime) -> Result<(), Fail> {
+    let alloc = rt.alloc();
+    let (zero, one, two) = (image(alloc, 1)?, image(alloc, 2)?, image(alloc, 3)?);
+    let images = [&zero, &one, &two, &one];
+    let hash = hash_of(&one);
+    let device = with_four(alloc, images, None)?;
+    let due = list_of(images, false, [Some(Mark::Test), None]);
+    check(&rt, &device, &[(set(&hash, false), due, "M")]);
+    Ok(())
+}
+
+#[test]
+fn slot_0_before_slot_2(rt: HostRuntime) -> Result<(), Fail> {
+    let alloc = rt.alloc();
+    let (zero, one) = (image(alloc, 1)?, image(alloc, 2)?);
+    let images = [&zero, &one, &zero, &one];
+    let hash = hash_of(&zero);
+    let device = with_four(alloc, images, None)?;
+    let (second, third) = (second_entry(hash_of(&one), None), first_entry(hash, false));
+    let due = four([first_entry(hash, true), second], [third, second]);
+    check(
+        &rt,
+        &device,
+        &[(set(&hash, true), due, "F"), (set_none(true), due, "F")],
+    );
     Ok(())
 }
 
@@ -160,41 +215,71 @@ fn upload_of(alloc: Global, all: &[u8], count: usize) -> Result<Option<Upload>, 
 }
 
 #[test]
-fn parts_that_name_no_image(rt: HostRuntime) -> Result<(), Fail> {
+fn bare_parts(rt: HostRuntime) -> Result<(), Fail> {
+    let alloc = rt.alloc();
+    let all = with_magic(alloc, 100)?;
+    let bytes = cut(all.as_slice(), 48, 72);
+    let device = with_uploads(alloc, 0)?;
+    check(
+        &rt,
+        &device,
+        &[(unnamed(48, None, None, bytes), offset(72), "A")],
+    );
+    let device = with_uploads(alloc, 1)?;
+    check(
+        &rt,
+        &device,
+        &[(unnamed(56, None, None, bytes), offset(80), "a")],
+    );
+    Ok(())
+}
+
+#[test]
+fn parts_of_two_images(rt: HostRuntime) -> Result<(), Fail> {
     let alloc = rt.alloc();
     let all = with_magic(alloc, 100)?;
     let all = all.as_slice();
     let sha = Sha256::digest(all);
     let digest = Some(sha.as_slice());
     let bytes = cut(all, 48, 72);
-    for target in [0, 1] {
-        let device = with_uploads(alloc, target)?;
-        let bare = if target == 0 {
-            (unnamed(48, None, None, bytes), offset(72), "A")
-        } else {
-            (unnamed(56, None, None, bytes), offset(80), "a")
-        };
-        check(
-            &rt,
-            &device,
-            &[
-                bare,
-                (unnamed(48, None, digest, bytes), offset(72), "A"),
-                (unnamed(56, None, digest, bytes), offset(48), ""),
-                (part(0, 48, None, bytes), offset(72), "A"),
-                (part(1, 56, None, bytes), offset(80), "a"),
-                (
-                    part(1, 56, None, cut(all, 56, 100)),
-                    matched(100, true),
-                    "a",
-                ),
-                (unnamed(0, Some(100), digest, all), offset(48), "T"),
-                (part(2, 48, None, bytes), error(1, 14), ""),
-                (part(2, 0, Some(100), all), error(1, 14), ""),
-                (part(1, 0, Some(80), cut(all, 0, 40)), offset(40), "tca"),
-                (part(1, 0, Some(39), cut(all, 0, 40)), error(1, 31), ""),
-            ],
-        );
-    }
+    let device = with_uploads(alloc, 1)?;
+    check(
+        &rt,
+        &device,
+        &[
+            (unnamed(48, None, digest, bytes), offset(72), "A"),
+            (unnamed(56, None, digest, bytes), offset(48), ""),
+            (part(0, 48, None, bytes), offset(72), "A"),
+            (part(1, 56, None, bytes), offset(80), "a"),
+            (
+                part(1, 56, None, cut(all, 56, 100)),
+                matched(100, true),
+                "a",
+            ),
+            (part(2, 48, None, bytes), error(1, 14), ""),
+        ],
+    );
+    Ok(())
+}
+
+#[test]
+fn starts_of_two_images(rt: HostRuntime) -> Result<(), Fail> {
+    let alloc = rt.alloc();
+    let all = with_magic(alloc, 100)?;
+    let all = all.as_slice();
+    let sha = Sha256::digest(all);
+    let digest = Some(sha.as_slice());
+    let few = cut(all, 0, 40);
+    let device = with_uploads(alloc, 1)?;
+    check(
+        &rt,
+        &device,
+        &[
+            (unnamed(0, Some(100), digest, all), offset(48), "T"),
+            (part(1, 0, Some(80), few), offset(40), "tca"),
+            (part(1, 0, Some(39), few), error(1, 31), ""),
+            (part(2, 0, Some(100), all), error(1, 14), ""),
+        ],
+    );
     Ok(())
 }
