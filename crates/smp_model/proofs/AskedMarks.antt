@@ -1,6 +1,6 @@
 -- A request for a mark or a confirmation that is answered with the list has done what it asks for.
-use Rattle.std.proofs.Common.{◌≡◌, ◌<◌, ◌==◌, ◌⊎◌, inl, inr, ℕ, zero, suc, List, [], ◌∷◌, ◌++◌, length, Bool, true, false, Option, Some, None, refl, sym, ap, subst, ◌∙◌, arith, if◌then◌else◌}
-use Rattle.std.specs.Prelude.{Result, Ok, Err}
+use Rattle.std.proofs.Common.{◌≡◌, ◌<◌, ◌==◌, inl, inr, ℕ, List, [], ◌∷◌, length, Bool, true, false, Option, Some, None, refl, sym, ap, subst, ◌∙◌, arith, if◌then◌else◌}
+use Rattle.std.specs.Prelude.{Ok, Err}
 use Rattle.smp_model.specs.declared.device.AbstractDevice.{AbstractDevice}
 use Rattle.smp_model.specs.declared.device.Side.{Side}
 use Rattle.smp_model.specs.declared.device.Sizes.{Sizes}
@@ -13,8 +13,8 @@ use Rattle.smp_model.specs.Laws.{IsSetOn}
 use Rattle.smp_model.specs.Meant as meant
 use Rattle.smp_model.specs.Response.{Response, settling}
 use Rattle.smp_model.specs.Said.{is_error}
-use Rattle.smp_model.specs.Sides.{SideStep, Confirm, MarkPending}
-use Rattle.smp_model.specs.Steps.{OnSide, side_at, applied, on_side, settle, settle_steps}
+use Rattle.smp_model.specs.Sides.{Confirm, MarkPending}
+use Rattle.smp_model.specs.Steps.{side_at, applied, settle, settle_steps}
 use Rattle.smp_model.proofs.Cases.{by_if}
 use Rattle.smp_model.proofs.OnSides.{applied_more, found_after}
 

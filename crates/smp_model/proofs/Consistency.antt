@@ -1,6 +1,6 @@
 -- Requests, settling and a start lead from a consistent device to a consistent one.
-use Rattle.std.proofs.Common.{◌≡◌, ◌≤◌, ◌+◌, ◌-◌, ◌*◌, ◌/◌, ◌==◌, ◌&&◌, ◌||◌, not, ◌⊎◌, inl, inr, ℕ, zero, suc, List, [], ◌∷◌, ◌++◌, length, take, Bool, true, false, Option, Some, None, refl, sym, ap, subst, ◌∙◌, arith, length-append, append-nil, if◌then◌else◌, nat_lt}
-use Rattle.std.specs.Prelude.{nat_le, is_none, IfSome, IsSome, option_map}
+use Rattle.std.proofs.Common.{◌≡◌, ◌≤◌, ◌+◌, ◌*◌, ◌==◌, ◌&&◌, ◌||◌, not, ◌⊎◌, inl, inr, ℕ, zero, suc, List, [], ◌∷◌, ◌++◌, length, Bool, true, false, Option, Some, None, refl, sym, ap, subst, ◌∙◌, arith, length-append, if◌then◌else◌, nat_lt}
+use Rattle.std.specs.Prelude.{nat_le, is_none, IsSome, option_map}
 use Rattle.std.specs.List.{list_all}
 use Rattle.std.specs.Str.{is_utf8, bytes_eq}
 use Rattle.std.proofs.lemmas.Bool.Decides.{nat_tests}
@@ -12,22 +12,20 @@ use Rattle.smp_model.specs.declared.device.StoredFile.{StoredFile}
 use Rattle.smp_model.specs.declared.device.Upload.{Upload}
 use Rattle.smp_model.specs.declared.setting.Setting.{Setting}
 use Rattle.smp_model.specs.declared.upload.Announcement.{Announcement}
-use Rattle.smp_model.specs.Consistent.{is_file, are_files, FitsSlot, FitsUpload, UploadFits, IsConsistentSide, IsConsistent, HasTexts}
+use Rattle.smp_model.specs.Consistent.{is_file, are_files, FitsUpload, UploadFits, IsConsistentSide, IsConsistent, HasTexts}
 use Rattle.smp_model.specs.Does.{does}
-use Rattle.smp_model.specs.Due.{GoesOn, GoesOnAt, IsFileWrite, IsSideStepDue, IsStepDue}
-use Rattle.smp_model.specs.FileGroup.{if_file, about_file, reads_held, reads_file, is_sha256, hashes_held, hashes_file, tells_length, is_no_free_file, begins_file, continues_file, writes_file}
+use Rattle.smp_model.specs.Due.{GoesOnAt, IsFileWrite, IsSideStepDue, IsStepDue}
+use Rattle.smp_model.specs.FileGroup.{if_file, is_no_free_file, begins_file, continues_file, writes_file}
 use Rattle.smp_model.specs.Files.{is_file_name, longest_file, file_of, stored_file, lengthened}
-use Rattle.smp_model.specs.Laws.{EachStep, Along, EachSide, PendingIsGood, IsAboutImages}
-use Rattle.smp_model.specs.Said as said
-use Rattle.smp_model.specs.Counters.{no_counters}
+use Rattle.smp_model.specs.Laws.{IsAboutImages}
 use Rattle.smp_model.specs.Meant as meant
 use Rattle.smp_model.specs.Meant.{Meant}
 use Rattle.smp_model.specs.Named.{is_ascending, named}
-use Rattle.smp_model.specs.Response.{Response, reply_alone}
+use Rattle.smp_model.specs.Response.{Response}
 use Rattle.smp_model.specs.Settings.{setting, value_of, written_setting, deleted_setting, is_setting, is_setting_name, is_setting_value, is_within_limits, is_full, stored_setting, stored_form}
-use Rattle.smp_model.specs.SettingsGroup.{reads_value, reads_setting, writes_setting, deletes_value, deletes_setting}
+use Rattle.smp_model.specs.SettingsGroup.{writes_setting, deletes_value, deletes_setting}
 use Rattle.smp_model.specs.Sides.{SideStep, Choose, Append, Drop, MarkPending, Confirm, appended, side_apply}
-use Rattle.smp_model.specs.Steps.{Change, write_setting, delete_setting, load_settings, begin_file, append_file, aim_at, Step, OnSide, Save, Run, Part, with_side, side_at, apply, applied, settle, settle_steps, settle_steps_of, start}
+use Rattle.smp_model.specs.Steps.{write_setting, delete_setting, load_settings, begin_file, append_file, aim_at, Step, OnSide, Save, Run, Part, with_side, side_at, apply, applied, settle, settle_steps, settle_steps_of, start}
 use Rattle.smp_model.proofs.Cases.{by_if, either_way}
 use Rattle.smp_model.proofs.DueSteps.{AllDue, does_due, settle_due, settle_of_due}
 use Rattle.smp_model.proofs.NamedThings.{left_of, right_of, both_of, placed_ascending, placed_all, placed_count, placed_again, without_ascending, without_all, without_count, without_shorter}

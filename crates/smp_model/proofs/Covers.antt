@@ -1,12 +1,12 @@
 -- What was acknowledged of the upload of an image stays held.
-use Rattle.std.proofs.Common.{◌≡◌, ◌⊎◌, inl, inr, ◌+◌, ◌==◌, ℕ, List, [], ◌∷◌, ◌++◌, length, Bool, true, false, Option, Some, None, refl, sym, ap, subst, ◌∙◌, arith, length-append, if◌then◌else◌}
+use Rattle.std.proofs.Common.{◌≡◌, inl, inr, ◌==◌, ℕ, List, [], ◌∷◌, Option, Some, None, sym, subst, arith, length-append, if◌then◌else◌}
 use Rattle.std.specs.Prelude.{IfSome, option_map, max}
 use Rattle.std.proofs.lemmas.Bool.Decides.{nat_tests}
 use Rattle.smp_model.specs.declared.device.AbstractDevice.{AbstractDevice}
 use Rattle.smp_model.specs.declared.device.Side.{Side}
 use Rattle.smp_model.specs.declared.device.Sizes.{Sizes}
 use Rattle.smp_model.specs.declared.device.Upload.{Upload}
-use Rattle.smp_model.specs.Acknowledged.{chosen_since, offset_in, is_upload_to, acknowledged, CoversAt, CoversOn}
+use Rattle.smp_model.specs.Acknowledged.{chosen_since, offset_in, acknowledged, CoversAt, CoversOn}
 use Rattle.smp_model.specs.Does.{does}
 use Rattle.smp_model.specs.ImageGroup.{side_of, uploads}
 use Rattle.smp_model.specs.Laws.{ReplyHeld}
@@ -14,7 +14,7 @@ use Rattle.smp_model.specs.Meant as meant
 use Rattle.smp_model.specs.Meant.{Meant}
 use Rattle.smp_model.specs.Said as said
 use Rattle.smp_model.specs.Said.{Said}
-use Rattle.smp_model.specs.Sides.{SideStep, Choose, Append, Drop, MarkPending, Confirm, appended, side_apply}
+use Rattle.smp_model.specs.Sides.{Choose, Append, Drop, MarkPending, Confirm, appended, side_apply}
 use Rattle.smp_model.specs.Steps.{Step, OnSide, Save, Run, side_at, with_side, apply, applied}
 use Rattle.smp_model.proofs.Cases.{by_if}
 use Rattle.smp_model.proofs.OnSides.{side_with, side_other, side_saved, side_changed, same_or_other}

@@ -1,5 +1,5 @@
 -- Each step of each request is due at the device that it finds.
-use Rattle.std.proofs.Common.{◌≡◌, ◌≤◌, ◌<◌, ◌+◌, ◌-◌, ◌*◌, ◌/◌, ◌==◌, ◌&&◌, not, ◌⊎◌, inl, inr, ℕ, zero, suc, List, [], ◌∷◌, ◌++◌, length, take, Bool, true, false, Option, Some, None, refl, sym, ap, subst, ◌∙◌, arith, length-append, if◌then◌else◌, nat_lt}
+use Rattle.std.proofs.Common.{◌≡◌, ◌≤◌, ◌+◌, ◌-◌, ◌*◌, ◌/◌, ◌==◌, ◌&&◌, not, ◌⊎◌, inl, inr, ℕ, zero, suc, List, [], ◌∷◌, ◌++◌, length, take, Bool, true, false, Option, Some, None, refl, sym, ap, subst, ◌∙◌, arith, length-append, if◌then◌else◌, nat_lt}
 use Rattle.std.specs.Prelude.{IfSome, IsSome, Result, Ok, Err}
 use Rattle.std.proofs.Math.Nat.{mul-div-le}
 use Rattle.std.proofs.lemmas.Bool.Decides.{nat_tests}
@@ -14,16 +14,16 @@ use Rattle.smp_model.specs.declared.upload.Announcement.{Announcement}
 use Rattle.smp_model.specs.declared.upload.Mark.{Mark}
 use Rattle.smp_model.specs.Consistent.{FitsSlot}
 use Rattle.smp_model.specs.Does.{does}
-use Rattle.smp_model.specs.Due.{image_for, IsStart, Announces, IsUpload, IsErase, GoesOn, GoesOnAt, IsSideStepDue, IsChangeDue, IsStepDue}
-use Rattle.smp_model.specs.ImageGroup.{completes, keeps, takes_part, part_at, begins, new_start, resumes, start_at, side_of, is_offset, aims, has_wrong_size, begins_with_magic, begins_on, start_of, part_of, uploads_to, uploads, wants, refuses_image, refuses_part, lists_after, lists_with, mark_of, same_mark, marks, has_hash, confirms, runs, holds, confirms_on, marks_on, sets_hash, sets_no_hash, sets_image, lists, erase_of, erases_on, erases}
-use Rattle.smp_model.specs.Laws.{EachStep, Along, OnImage, GoodUpload, AsksFor, IsDue}
+use Rattle.smp_model.specs.Due.{image_for, IsStart, Announces, IsUpload, IsErase, GoesOn, IsSideStepDue, IsChangeDue, IsStepDue}
+use Rattle.smp_model.specs.ImageGroup.{completes, keeps, takes_part, part_at, begins, new_start, resumes, start_at, side_of, is_offset, aims, has_wrong_size, begins_with_magic, start_of, part_of, uploads_to, uploads, wants, refuses_image, refuses_part, lists_after, lists_with, mark_of, same_mark, marks, has_hash, confirms, runs, holds, confirms_on, marks_on, sets_hash, sets_no_hash, sets_image, erase_of, erases_on, erases}
+use Rattle.smp_model.specs.Laws.{EachStep, Along, AsksFor}
 use Rattle.smp_model.specs.Meant as meant
 use Rattle.smp_model.specs.Meant.{Meant}
 use Rattle.smp_model.specs.Response.{Response, SideResponse, settling, settling_side}
 use Rattle.smp_model.specs.Said.{Said, if_some}
-use Rattle.smp_model.specs.Sides.{SideStep, Choose, Append, Drop, MarkPending, Confirm, chosen, side_apply, side_applied, side_settle_steps, side_settle}
-use Rattle.smp_model.specs.Steps.{Change, aim_at, Step, OnSide, Save, Run, side_at, apply, applied, on_side, settle, settle_steps, settle_steps_of}
-use Rattle.smp_model.specs.Uploads.{differs, is_complete, is_spoiled, is_tagged_by, kept, uploaded_image, is_resumed_by}
+use Rattle.smp_model.specs.Sides.{SideStep, Drop, side_applied, side_settle_steps, side_settle}
+use Rattle.smp_model.specs.Steps.{aim_at, Step, OnSide, Save, Run, side_at, apply, applied, on_side, settle, settle_steps, settle_steps_of}
+use Rattle.smp_model.specs.Uploads.{differs, is_spoiled, is_tagged_by, kept, uploaded_image, is_resumed_by}
 use Rattle.smp_model.proofs.Cases.{by_if, either_way}
 use Rattle.smp_model.proofs.GoodUploads.{good_of_image}
 use Rattle.smp_model.proofs.NamedThings.{both_of}

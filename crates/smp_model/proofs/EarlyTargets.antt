@@ -1,13 +1,13 @@
 -- A start that is answered with an offset moves the target of parts before it changes an upload.
-use Rattle.std.proofs.Common.{◌≡◌, ℕ, zero, suc, List, [], ◌∷◌, ◌++◌, length, Bool, true, false, Option, Some, None, refl, sym, ap, subst, ◌∙◌, if◌then◌else◌}
+use Rattle.std.proofs.Common.{◌≡◌, ℕ, zero, suc, List, [], ◌∷◌, ◌++◌, true, false, Option, refl, sym, ap, subst, ◌∙◌, if◌then◌else◌}
 use Rattle.smp_model.specs.declared.device.AbstractDevice.{AbstractDevice}
 use Rattle.smp_model.specs.declared.device.Side.{Side}
 use Rattle.smp_model.specs.declared.device.Sizes.{Sizes}
 use Rattle.smp_model.specs.ImageGroup.{is_offset, side_of, uploads}
 use Rattle.smp_model.specs.Laws.{Along, GoesToUpload}
 use Rattle.smp_model.specs.Response.{Response}
-use Rattle.smp_model.specs.Sides.{SideStep, Choose, Append, Drop, MarkPending, Confirm, side_apply, side_settle_steps}
-use Rattle.smp_model.specs.Steps.{Step, OnSide, Save, Run, aim_at, with_side, apply, applied, on_side}
+use Rattle.smp_model.specs.Sides.{SideStep, Drop, side_apply, side_settle_steps}
+use Rattle.smp_model.specs.Steps.{Step, OnSide, Run, aim_at, with_side, apply, applied, on_side}
 use Rattle.smp_model.specs.Uploads.{is_spoiled}
 use Rattle.smp_model.proofs.Cases.{either_way}
 use Rattle.smp_model.proofs.OnSides.{along_at, along_more}

@@ -1,12 +1,12 @@
 -- A hash means the first slot that has it.
-use Rattle.std.proofs.Common.{◌≡◌, ◌<◌, ◌==◌, ◌⊎◌, inl, inr, ℕ, zero, suc, List, [], ◌∷◌, ◌++◌, length, Bool, true, false, Option, Some, None, refl, sym, ap, subst, ◌∙◌, arith, if◌then◌else◌}
+use Rattle.std.proofs.Common.{◌≡◌, ◌<◌, ◌==◌, ℕ, zero, List, [], ◌∷◌, ◌++◌, length, Bool, true, false, Option, Some, None, subst, arith}
 use Rattle.std.specs.Prelude.{Result, Ok, Err}
 use Rattle.smp_model.specs.declared.device.AbstractDevice.{AbstractDevice}
 use Rattle.smp_model.specs.declared.device.Side.{Side}
 use Rattle.smp_model.specs.declared.upload.Mark.{Mark}
 use Rattle.smp_model.specs.declared.device.Sizes.{Sizes}
 use Rattle.smp_model.specs.Does.{does}
-use Rattle.smp_model.specs.ImageGroup.{refuses_image, lists_with, mark_of, same_mark, marks, confirms, runs, holds, confirms_on, marks_on, sets_hash, sets_image}
+use Rattle.smp_model.specs.ImageGroup.{refuses_image, lists_with, mark_of, same_mark, marks, confirms, runs, holds, confirms_on, marks_on, sets_hash}
 use Rattle.smp_model.specs.Laws.{EachStep, IsOfFirst}
 use Rattle.smp_model.specs.Meant as meant
 use Rattle.smp_model.specs.Meant.{Meant}

@@ -1,5 +1,5 @@
 -- What comes of a packet keeps a consistent device consistent, also where the flash fails at it.
-use Rattle.std.proofs.Common.{◌≡◌, ◌==◌, ◌||◌, ℕ, List, Bool, true, false, Option, Some, None, refl, sym, subst, if◌then◌else◌}
+use Rattle.std.proofs.Common.{◌≡◌, ℕ, List, true, Option, Some, None, refl, sym, subst}
 use Rattle.std.specs.Prelude.{Result, Ok, Err, IsSome}
 use Rattle.smp_header.specs.Message.{Message, packet}
 use Rattle.smp_model.specs.declared.device.AbstractDevice.{AbstractDevice}
@@ -8,13 +8,13 @@ use Rattle.smp_model.specs.declared.device.Sizes.{Sizes}
 use Rattle.smp_model.specs.Consistent.{IsConsistent}
 use Rattle.smp_model.specs.Counters.{after_drop, after_reply}
 use Rattle.smp_model.specs.Does.{does}
-use Rattle.smp_model.specs.Faults.{fault_reply, IsBrokenOff, IsHandledWithFault}
+use Rattle.smp_model.specs.Faults.{IsHandledWithFault}
 use Rattle.smp_model.specs.Handled.{Handled, is_request, response_to, is_reset, answered, dropped, handled_packet, handled}
 use Rattle.smp_model.specs.Meaning.{meaning}
 use Rattle.smp_model.specs.Meant.{Meant}
 use Rattle.smp_model.specs.Response.{after}
 use Rattle.smp_model.specs.Said.{is_error}
-use Rattle.smp_model.specs.Steps.{side_at, applied, start}
+use Rattle.smp_model.specs.Steps.{applied, start}
 use Rattle.smp_model.proofs.Cases.{either_way}
 use Rattle.smp_model.proofs.Consistency.{request_consistent, start_consistent}
 use Rattle.smp_model.proofs.OnSides.{side_same}

@@ -1,23 +1,22 @@
 -- Where the bytes of a request complete an upload that announced a digest, `match` is there.
-use Rattle.std.proofs.Common.{◌≡◌, ◌⊎◌, inl, inr, ◌+◌, ◌==◌, ◌&&◌, ◌||◌, not, ℕ, List, [], ◌∷◌, ◌++◌, length, Bool, true, false, Option, Some, None, refl, sym, ap, subst, ◌∙◌, arith, length-append, if◌then◌else◌, nat_lt}
+use Rattle.std.proofs.Common.{◌≡◌, inl, inr, ◌+◌, ◌==◌, ◌&&◌, ◌||◌, ℕ, List, [], ◌∷◌, ◌++◌, length, Bool, true, false, Option, Some, None, refl, sym, ap, subst, ◌∙◌, length-append, nat_lt}
 use Rattle.std.specs.Prelude.{IfSome}
-use Rattle.std.proofs.lemmas.Bool.Decides.{nat_tests}
 use Rattle.smp_model.specs.declared.device.AbstractDevice.{AbstractDevice}
 use Rattle.smp_model.specs.declared.device.Side.{Side}
 use Rattle.smp_model.specs.declared.device.Sizes.{Sizes}
 use Rattle.smp_model.specs.declared.device.Upload.{Upload}
 use Rattle.smp_model.specs.declared.upload.Announcement.{Announcement}
 use Rattle.smp_model.specs.declared.upload.Mark.{Mark}
-use Rattle.smp_model.specs.ImageGroup.{completes, keeps, takes_part, part_at, begins, new_start, resumes, start_at, side_of, is_offset, aims, uploads, wants, refuses_part, refuses_image}
+use Rattle.smp_model.specs.ImageGroup.{completes, keeps, takes_part, part_at, new_start, resumes, start_at, side_of, is_offset, aims, uploads, wants, refuses_part}
 use Rattle.smp_model.specs.Laws.{MatchTold}
 use Rattle.smp_model.specs.Response.{Response, SideResponse, side_responds, settling_side}
 use Rattle.smp_model.specs.Said as said
 use Rattle.smp_model.specs.Said.{Said}
-use Rattle.smp_model.specs.Sides.{SideStep, Choose, Append, Drop, MarkPending, Confirm, side_applied, side_settle_steps, side_settle}
+use Rattle.smp_model.specs.Sides.{SideStep, Choose, Append, Drop, MarkPending, Confirm, side_applied, side_settle}
 use Rattle.smp_model.specs.Steps.{Step, OnSide, Save, Run, aim_at, side_at, applied, on_side}
-use Rattle.smp_model.specs.Uploads.{differs, is_complete, is_spoiled, is_tagged_by, kept, is_resumed_by}
+use Rattle.smp_model.specs.Uploads.{differs, is_spoiled, is_tagged_by, kept, is_resumed_by}
 use Rattle.smp_model.proofs.Cases.{by_if, either_way}
-use Rattle.smp_model.proofs.DueSteps.{with_held, upload_of}
+use Rattle.smp_model.proofs.DueSteps.{with_held}
 use Rattle.smp_model.proofs.Requests.{upload_cases, starting, left_by, aims_leave}
 use Rattle.smp_model.specs.declared.error.TheConstants.{PAST_UPLOAD_END}
 

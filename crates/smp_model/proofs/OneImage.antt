@@ -1,20 +1,19 @@
 -- A device of one image.
-use Rattle.std.proofs.Common.{◌≡◌, ◌<◌, ◌==◌, ◌||◌, ◌⊎◌, inl, inr, ℕ, zero, suc, List, [], ◌∷◌, ◌++◌, Bool, true, false, Option, Some, None, refl, sym, ap, subst, ◌∙◌, arith, append-nil, if◌then◌else◌}
-use Rattle.std.specs.Prelude.{IfSome, option_map, is_some}
+use Rattle.std.proofs.Common.{◌≡◌, ◌<◌, ◌==◌, ◌||◌, ◌⊎◌, inl, inr, ℕ, zero, suc, List, ◌++◌, Bool, true, false, Option, Some, None, refl, sym, ap, ◌∙◌, arith, append-nil, if◌then◌else◌}
+use Rattle.std.specs.Prelude.{option_map, is_some}
 use Rattle.smp_model.specs.declared.device.AbstractDevice.{AbstractDevice}
 use Rattle.smp_model.specs.declared.device.Side.{Side}
 use Rattle.smp_model.specs.declared.device.Sizes.{Sizes}
 use Rattle.smp_model.specs.Does.{does}
 use Rattle.smp_model.specs.Due.{IsStepDue}
-use Rattle.smp_model.specs.ImageGroup.{pair_of, images_of, side_of, uploads_to, uploads, refuses_image, confirms_on, marks_on, runs, holds, sets_hash, erases_on}
-use Rattle.smp_model.specs.Laws.{EachStep, OnImage, IsOn}
+use Rattle.smp_model.specs.ImageGroup.{pair_of, side_of, uploads_to, refuses_image, confirms_on, marks_on, runs, holds, sets_hash, erases_on}
+use Rattle.smp_model.specs.Laws.{EachStep, IsOn}
 use Rattle.smp_model.specs.Meant as meant
 use Rattle.smp_model.specs.Meant.{Meant}
-use Rattle.smp_model.specs.Response.{Response}
-use Rattle.smp_model.specs.Said.{Said, images, if_some}
+use Rattle.smp_model.specs.Said.{images, if_some}
 use Rattle.smp_model.specs.Sides.{side_settle, side_settle_steps}
-use Rattle.smp_model.specs.Steps.{Step, OnSide, Save, Run, side_at, apply, applied, on_side, settle, settle_steps, settle_steps_of}
-use Rattle.smp_model.proofs.OnSides.{along_with, side_with, side_changed}
+use Rattle.smp_model.specs.Steps.{Step, OnSide, Save, Run, side_at, apply, on_side, settle, settle_steps, settle_steps_of}
+use Rattle.smp_model.proofs.OnSides.{along_with, side_changed}
 use Rattle.smp_model.proofs.DueSteps.{does_due}
 use Rattle.smp_model.proofs.Requests.{settled_side}
 use Rattle.smp_model.specs.declared.error.TheConstants.{INVALID_SLOT, HASH_NOT_FOUND}

@@ -1,24 +1,22 @@
 -- The texts of a request that a packet means are UTF-8: the reader of maps takes no other.
-use Rattle.std.proofs.Common.{◌≡◌, ◌^◌, ◌/◌, ◌==◌, ◌&&◌, not, ℕ, zero, suc, List, [], ◌∷◌, length, drop, Bool, true, false, Option, Some, None, refl, sym, ap, subst, ◌∙◌, if◌then◌else◌, nat_lt}
-use Rattle.std.specs.Prelude.{Result, Ok, Err, IfSome, IsTrue}
-use Rattle.std.specs.List.{list_all}
+use Rattle.std.proofs.Common.{◌≡◌, ◌^◌, ◌/◌, ◌==◌, ◌&&◌, ℕ, zero, suc, List, [], ◌∷◌, Bool, true, false, Option, Some, None, refl, ap, subst, ◌∙◌, if◌then◌else◌, nat_lt}
+use Rattle.std.specs.Prelude.{Result, Ok, Err, IfSome}
 use Rattle.std.specs.Str.{is_utf8, bytes_eq}
-use Rattle.smp_cbor.specs.declared.fault.CborKind.{CborKind}
 use Rattle.smp_cbor.specs.declared.fault.CborKind.TheVariants as kinds
 use Rattle.smp_cbor.specs.declared.fault.Stop.{Stop}
 use Rattle.smp_cbor.specs.declared.heads.Head.{Head}
 use Rattle.smp_cbor.specs.declared.heads.Head.TheVariants as heads
 use Rattle.smp_cbor.specs.Heads.{◌>>=◌, head_at}
-use Rattle.smp_cbor.specs.Skipping.{stop_at, placed, octets_at, text_at, begins_break, Skip, skip_at}
-use Rattle.smp_cbor.specs.Values.{Value, unsigned, negative, octets, text, list, map, boolean, null, other, values, pairs, key_at, or_nil, pairs_from, map_value, or_other, leaf_value, inner_value, value_at, whole, map_body, map_of, map_pairs, map_entries}
+use Rattle.smp_cbor.specs.Skipping.{stop_at, placed, octets_at, text_at, begins_break, Skip}
+use Rattle.smp_cbor.specs.Values.{Value, unsigned, octets, text, boolean, null, key_at, or_nil, pairs_from, map_value, or_other, leaf_value, inner_value, value_at, whole, map_body, map_of, map_pairs, map_entries}
 use Rattle.smp_cbor.specs.Views.{look_up}
 use Rattle.smp_header.specs.Message.{Message}
 use Rattle.smp_model.specs.Consistent.{HasTexts}
-use Rattle.smp_model.specs.Meaning.{present, of_kind, field, by_need, fields, or_invalid, some_or_invalid, filled, by_row, meaning}
+use Rattle.smp_model.specs.Meaning.{of_kind, field, by_need, fields, or_invalid, some_or_invalid, filled, by_row, meaning}
 use Rattle.smp_model.specs.Meant as meant
 use Rattle.smp_model.specs.Meant.{Meant, number_in, words_in, bytes_in, made}
 use Rattle.smp_model.specs.Table.{Kind, a_number, a_text, some_bytes, a_truth, Field, number, words, bytes, truth, Need, required, optional, counts_as, always, unused, Key, Name, echo_row, reset_row, parameters_row, image_list_row, image_set_row, upload_row, erase_row, stat_group_row, stat_list_row, setting_read_row, setting_write_row, setting_delete_row, commit_row, load_row, save_row, file_read_row, file_write_row, file_status_row, file_hash_row, file_types_row, file_close_row, table, name_at}
-use Rattle.smp_model.specs.declared.error.TheConstants.{INVALID_VALUE, NOT_SUPPORTED, VERSION_TOO_NEW}
+use Rattle.smp_model.specs.declared.error.TheConstants.{INVALID_VALUE, VERSION_TOO_NEW}
 
 -- a value that is UTF-8 where it is a text
 abbrev IsSoundValue : Value → Type 0

@@ -1,31 +1,23 @@
 -- A refusal has no steps but those of settling, and leaves the target of parts; the target is the image of the last start that
 -- was answered with an offset.
-use Rattle.std.proofs.Common.{◌≡◌, ◌+◌, ◌-◌, ◌==◌, not, ◌⊎◌, inl, inr, ℕ, zero, suc, List, [], ◌∷◌, ◌++◌, length, Bool, true, false, Option, Some, None, refl, sym, ap, subst, ◌∙◌, arith, append-nil, if◌then◌else◌, nat_lt}
-use Rattle.std.specs.Prelude.{Result, Ok, Err, IfSome}
+use Rattle.std.proofs.Common.{◌≡◌, ◌==◌, inl, inr, ℕ, zero, suc, List, [], ◌∷◌, ◌++◌, length, Bool, true, false, Option, Some, None, refl, sym, ap, subst, ◌∙◌, append-nil, if◌then◌else◌}
+use Rattle.std.specs.Prelude.{Result, Ok, Err}
 use Rattle.smp_model.specs.declared.device.AbstractDevice.{AbstractDevice}
 use Rattle.smp_model.specs.declared.device.Side.{Side}
 use Rattle.smp_model.specs.declared.device.Sizes.{Sizes}
-use Rattle.smp_model.specs.declared.device.StoredFile.{StoredFile}
-use Rattle.smp_model.specs.declared.setting.Setting.{Setting}
-use Rattle.smp_model.specs.declared.upload.Mark.{Mark}
 use Rattle.smp_model.specs.Does.{does}
-use Rattle.smp_model.specs.Due.{image_for, IsStart, IsStepDue}
-use Rattle.smp_model.specs.FileGroup.{if_file, about_file, reads_held, is_sha256, hashes_held, is_no_free_file, begins_file, continues_file, writes_file}
-use Rattle.smp_model.specs.Files.{is_file_name, longest_file, file_of}
-use Rattle.smp_model.specs.ImageGroup.{part_at, start_at, side_of, is_offset, aims, begins_on, uploads, refuses_image, lists_after, lists_with, mark_of, same_mark, marks, confirms, runs, holds, confirms_on, marks_on, sets_hash, sets_no_hash, sets_image, erase_of, erases_on, erases}
-use Rattle.smp_model.specs.Laws.{EachStep, Along, SettlesAtMost}
-use Rattle.smp_model.specs.Meant as meant
+use Rattle.smp_model.specs.Due.{IsStart}
+use Rattle.smp_model.specs.ImageGroup.{part_at, side_of, is_offset, aims, uploads, refuses_image, lists_with, mark_of, marks, confirms, runs, holds, confirms_on, marks_on, sets_hash, sets_no_hash, sets_image, erase_of, erases_on, erases}
+use Rattle.smp_model.specs.Laws.{EachStep, SettlesAtMost}
 use Rattle.smp_model.specs.Meant.{Meant}
 use Rattle.smp_model.specs.Response.{Response, SideResponse, settling, settling_side}
 use Rattle.smp_model.specs.Said as said
 use Rattle.smp_model.specs.Said.{Said, is_error, if_some}
-use Rattle.smp_model.specs.Settings.{value_of, is_setting_name, is_setting_value, is_full}
-use Rattle.smp_model.specs.SettingsGroup.{reads_value, reads_setting, writes_setting, deletes_value, deletes_setting}
 use Rattle.smp_model.specs.Sides.{SideStep, side_apply, side_settle_steps, side_settle}
-use Rattle.smp_model.specs.Steps.{Change, write_setting, delete_setting, load_settings, begin_file, append_file, aim_at, Step, OnSide, Save, Run, Part, with_side, side_at, apply, applied, on_side, settle, settle_steps, settle_steps_of}
-use Rattle.smp_model.proofs.Cases.{by_if, either_way}
+use Rattle.smp_model.specs.Steps.{write_setting, delete_setting, load_settings, begin_file, append_file, aim_at, Step, OnSide, Save, Run, Part, with_side, side_at, apply, applied, on_side, settle, settle_steps, settle_steps_of}
+use Rattle.smp_model.proofs.Cases.{either_way}
 use Rattle.smp_model.proofs.DueSteps.{AllDue, does_due}
-use Rattle.smp_model.proofs.OnSides.{along_front, kept_along, each_more, applied_more}
+use Rattle.smp_model.proofs.OnSides.{each_more, applied_more}
 use Rattle.smp_model.proofs.Replies.{RefusesSide, start_refuses, part_at_refuses, erase_refuses}
 use Rattle.smp_model.proofs.Requests.{upload_cases, starting}
 use Rattle.smp_model.proofs.UploadLaws.{steps_at}

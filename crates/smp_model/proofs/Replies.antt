@@ -1,6 +1,6 @@
 -- What one side answers about uploads: the offset is held, `match` is true, a settled side stays settled, an error comes without
 -- steps, what fits is kept, a foreign tag stores nothing.
-use Rattle.std.proofs.Common.{◌≡◌, ◌≤◌, ◌<◌, ◌+◌, ◌-◌, ◌*◌, ◌/◌, ◌%◌, ◌==◌, ◌&&◌, not, ◌⊎◌, inl, inr, ℕ, zero, suc, List, [], ◌∷◌, ◌++◌, length, take, Bool, true, false, Option, Some, None, refl, sym, ap, subst, ◌∙◌, arith, length-append, if◌then◌else◌, nat_lt}
+use Rattle.std.proofs.Common.{◌≡◌, ◌≤◌, ◌<◌, ◌+◌, ◌*◌, ◌/◌, ◌==◌, ◌&&◌, not, ◌⊎◌, inl, inr, ℕ, zero, List, [], ◌∷◌, ◌++◌, length, take, Bool, true, false, Option, Some, None, refl, sym, ap, subst, ◌∙◌, arith, length-append, if◌then◌else◌, nat_lt}
 use Rattle.std.specs.Str.{bytes_eq}
 use Rattle.std.proofs.Math.Nat.{mul-div-le, div-add-mod, mod-lt}
 use Rattle.std.proofs.lemmas.Bool.Decides.{nat_tests}
@@ -12,14 +12,14 @@ use Rattle.smp_model.specs.declared.device.Upload.{Upload}
 use Rattle.smp_model.specs.declared.upload.Announcement.{Announcement}
 use Rattle.smp_model.specs.declared.upload.Mark.{Mark}
 use Rattle.smp_model.specs.ImageGroup.{completes, keeps, takes_part, part_at, begins, new_start, resumes, start_at, wants, refuses_part, erase_of}
-use Rattle.smp_model.specs.Laws.{ReplyHeld, MatchHolds, HasDigest, Reaches, ResumesAt, StartsWith, is_foreign}
-use Rattle.smp_model.specs.Response.{SideResponse, side_responds}
+use Rattle.smp_model.specs.Laws.{ReplyHeld, MatchHolds, Reaches, StartsWith, is_foreign}
+use Rattle.smp_model.specs.Response.{SideResponse}
 use Rattle.smp_model.specs.Said as said
 use Rattle.smp_model.specs.Said.{Said, is_error}
-use Rattle.smp_model.specs.Sides.{SideStep, Choose, Append, Drop, chosen, side_apply, side_applied, side_settle_steps, side_settle}
-use Rattle.smp_model.specs.Uploads.{differs, is_complete, is_spoiled, is_tagged_by, kept, is_resumed_by}
+use Rattle.smp_model.specs.Sides.{SideStep, Drop, side_applied, side_settle}
+use Rattle.smp_model.specs.Uploads.{differs, is_spoiled, is_tagged_by, kept, is_resumed_by}
 use Rattle.smp_model.proofs.Cases.{by_if, either_way}
-use Rattle.smp_model.proofs.DueSteps.{with_held, upload_of, kept_fewer, kept_units}
+use Rattle.smp_model.proofs.DueSteps.{with_held, upload_of}
 use Rattle.smp_model.specs.declared.error.TheConstants.{PAST_UPLOAD_END}
 
 -- the response of a side, as what it leaves bears it out

@@ -1,6 +1,6 @@
 -- Requests by the kind of steps that they have: none, changes of what a start forgets, a save, or steps of images. A proof about
 -- every request goes through these kinds, so that another request without steps costs it nothing.
-use Rattle.std.proofs.Common.{◌≡◌, ◌+◌, ◌==◌, not, ℕ, List, [], ◌∷◌, length, Bool, true, false, Option, Some, None, refl, sym, subst, if◌then◌else◌, nat_lt}
+use Rattle.std.proofs.Common.{◌≡◌, ◌+◌, ◌==◌, not, ℕ, List, [], length, Bool, true, false, Option, Some, None, refl, sym, subst, if◌then◌else◌, nat_lt}
 use Rattle.smp_model.specs.declared.device.AbstractDevice.{AbstractDevice}
 use Rattle.smp_model.specs.declared.device.Sizes.{Sizes}
 use Rattle.smp_model.specs.declared.device.StoredFile.{StoredFile}
@@ -9,7 +9,7 @@ use Rattle.smp_model.specs.declared.upload.Announcement.{Announcement}
 use Rattle.smp_model.specs.Acknowledged.{is_upload_to}
 use Rattle.smp_model.specs.Does.{does}
 use Rattle.smp_model.specs.Due.{Announces, IsUpload, IsStart, IsChangeDue}
-use Rattle.smp_model.specs.FileGroup.{if_file, about_file, reads_held, reads_file, tells_length, is_sha256, hashes_held, hashes_file, is_no_free_file, begins_file, continues_file, writes_file}
+use Rattle.smp_model.specs.FileGroup.{if_file, about_file, reads_held, is_sha256, hashes_held, is_no_free_file, begins_file, continues_file, writes_file}
 use Rattle.smp_model.specs.Files.{is_file_name, longest_file, file_of}
 use Rattle.smp_model.specs.Laws.{EachStep}
 use Rattle.smp_model.specs.Meant as meant

@@ -12,7 +12,7 @@ use Rattle.smp_model.specs.ImageGroup.{part_at, start_at, side_of, is_offset, ai
 use Rattle.smp_model.specs.Response.{Response, SideResponse, settling_side}
 use Rattle.smp_model.specs.Said.{Said, if_some}
 use Rattle.smp_model.specs.Sides.{SideStep, Drop, side_apply, side_applied, side_settle_steps, side_settle}
-use Rattle.smp_model.specs.Steps.{Step, Run, aim_at, side_at, apply, applied, on_side, settle, settle_steps, settle_steps_of}
+use Rattle.smp_model.specs.Steps.{Step, Run, aim_at, side_at, applied, on_side, settle, settle_steps_of}
 use Rattle.smp_model.proofs.Cases.{by_if, either_way}
 use Rattle.smp_model.proofs.OnSides.{applied_more, found_after, found_other, side_changed}
 use Rattle.smp_model.specs.declared.error.TheConstants.{INVALID_DIGEST, IMAGE_TOO_LARGE, INVALID_HEADER, WRONG_MAGIC, NO_LENGTH, INVALID_SLOT}

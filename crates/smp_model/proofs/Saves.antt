@@ -5,7 +5,7 @@ use Rattle.smp_model.specs.declared.device.Side.{Side}
 use Rattle.smp_model.specs.declared.device.Sizes.{Sizes}
 use Rattle.smp_model.specs.Does.{does}
 use Rattle.smp_model.specs.Due.{IsStepDue, IsChangeDue}
-use Rattle.smp_model.specs.Laws.{Along, EachStep, IsNoSave}
+use Rattle.smp_model.specs.Laws.{EachStep, IsNoSave}
 use Rattle.smp_model.specs.Meant as meant
 use Rattle.smp_model.specs.Meant.{Meant}
 use Rattle.smp_model.specs.Sides.{side_apply}

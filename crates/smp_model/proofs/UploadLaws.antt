@@ -1,6 +1,6 @@
 -- What requests leave of the sides: offsets are held, `match` is true, settled sides stay settled; what is kept of a part; how
 -- the target of parts moves.
-use Rattle.std.proofs.Common.{◌≡◌, ◌≤◌, ◌<◌, ◌+◌, ◌==◌, not, ◌⊎◌, inl, inr, ℕ, zero, suc, List, [], ◌∷◌, ◌++◌, length, Bool, true, false, Option, Some, None, refl, sym, ap, subst, ◌∙◌, arith, append-nil, if◌then◌else◌, nat_lt}
+use Rattle.std.proofs.Common.{◌≡◌, ◌≤◌, ◌<◌, ◌+◌, ◌==◌, ◌⊎◌, inl, inr, ℕ, List, [], ◌∷◌, ◌++◌, length, Bool, true, false, Option, Some, None, refl, sym, ap, subst, ◌∙◌, arith, append-nil, if◌then◌else◌}
 use Rattle.std.specs.Prelude.{IfSome, option_map}
 use Rattle.std.proofs.lemmas.Bool.Decides.{nat_tests}
 use Rattle.smp_model.specs.declared.device.AbstractDevice.{AbstractDevice}
@@ -8,22 +8,21 @@ use Rattle.smp_model.specs.declared.device.Side.{Side}
 use Rattle.smp_model.specs.declared.device.Sizes.{Sizes}
 use Rattle.smp_model.specs.declared.device.Upload.{Upload}
 use Rattle.smp_model.specs.Does.{does}
-use Rattle.smp_model.specs.Due.{image_for, Announces, IsUpload, IsStart, IsSideStepDue, IsStepDue}
-use Rattle.smp_model.specs.ImageGroup.{part_at, start_at, side_of, is_offset, aims, has_wrong_size, begins_on, start_of, part_of, uploads_to, uploads, refuses_image}
-use Rattle.smp_model.specs.Laws.{EachStep, Along, EachSide, ReplyHeld, MatchHolds, Reaches, StartsWith, is_foreign, IsOn, IsSound, SettlesAtMost}
+use Rattle.smp_model.specs.Due.{Announces, IsUpload, IsSideStepDue, IsStepDue}
+use Rattle.smp_model.specs.ImageGroup.{part_at, side_of, is_offset, aims, has_wrong_size, start_of, uploads_to, uploads, refuses_image}
+use Rattle.smp_model.specs.Laws.{EachStep, EachSide, ReplyHeld, MatchHolds, Reaches, StartsWith, is_foreign, IsOn, IsSound}
 use Rattle.smp_model.specs.Meant as meant
 use Rattle.smp_model.specs.Meant.{Meant}
 use Rattle.smp_model.specs.Response.{Response, SideResponse, settling_side}
-use Rattle.smp_model.specs.Said as said
-use Rattle.smp_model.specs.Said.{Said, is_error, if_some}
+use Rattle.smp_model.specs.Said.{Said, if_some}
 use Rattle.smp_model.specs.Sides.{SideStep, Choose, Append, Drop, MarkPending, Confirm, side_apply, side_applied, side_settle_steps, side_settle}
-use Rattle.smp_model.specs.Steps.{Change, write_setting, delete_setting, load_settings, begin_file, append_file, aim_at, Step, OnSide, Save, Run, Part, with_side, side_at, apply, applied, changed, on_side, settle, settle_steps, settle_steps_of, settle_of}
+use Rattle.smp_model.specs.Steps.{Step, OnSide, Save, Run, with_side, side_at, apply, applied, on_side, settle, settle_steps, settle_steps_of, settle_of}
 use Rattle.smp_model.specs.Uploads.{is_spoiled, is_tagged_by}
 use Rattle.smp_model.proofs.Cases.{by_if, either_way}
-use Rattle.smp_model.proofs.OnSides.{side_other, side_saved, side_changed, side_with, found_other, along_front, kept_along, same_or_other, at_each, each_of}
-use Rattle.smp_model.proofs.DueSteps.{AllDue, does_due}
+use Rattle.smp_model.proofs.OnSides.{side_other, side_saved, side_changed, side_with, kept_along, same_or_other, at_each, each_of}
+use Rattle.smp_model.proofs.DueSteps.{does_due}
 use Rattle.smp_model.proofs.Marks.{only_one_side}
-use Rattle.smp_model.proofs.Pending.{the_same, sides_part, sides_step, settles_none, whole}
+use Rattle.smp_model.proofs.Pending.{the_same, sides_part, settles_none, whole}
 use Rattle.smp_model.proofs.Replies.{Sound, part_sound, start_sound, settles_once, foreign_stores_nothing, start_enough, part_enough}
 use Rattle.smp_model.proofs.Requests.{upload_cases, starting, announced, left_by, aims_leave, settled_side, settled_side_of}
 use Rattle.smp_model.specs.declared.error.TheConstants.{INVALID_DIGEST}

@@ -1,10 +1,10 @@
 -- What may come of a packet where the flash fails at its request, or a record is worn: the reply is that error, in the group
 -- of the request. Of the steps of the request some front was done. The reply is counted as an error.
-use Rattle.std.specs.Prelude.{◌≡◌, ℕ, List, Bool, false, ◌==◌, ◌&&◌, ◌||◌, Some, Ok, IsTrue}
+use Rattle.std.specs.Prelude.{◌≡◌, ℕ, List, Bool, ◌==◌, ◌&&◌, ◌||◌, Some, Ok, IsTrue}
 use Rattle.smp_header.specs.Message.{Message, packet}
 use Rattle.smp_model.specs.declared.device.AbstractDevice.{AbstractDevice}
 use Rattle.smp_model.specs.declared.device.Sizes.{Sizes}
-use Rattle.smp_model.specs.declared.error.TheConstants.{IMAGE_GROUP, SETTINGS_GROUP, READ_FAILED, WRITE_FAILED, ERASE_FAILED, RECORD_WORN, SETTINGS_WORN}
+use Rattle.smp_model.specs.declared.error.TheConstants.{READ_FAILED, WRITE_FAILED, ERASE_FAILED, RECORD_WORN, SETTINGS_WORN}
 use Rattle.smp_model.specs.Does.{does}
 use Rattle.smp_model.specs.FlashUse.{uses_images, uses_saved}
 use Rattle.smp_model.specs.Handled.{Handled}

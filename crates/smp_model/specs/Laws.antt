@@ -1,20 +1,19 @@
 -- The words in which the laws of the abstract device are said.
-use Rattle.std.specs.Prelude.{◌≡◌, ◌⊎◌, ◌≤◌, ◌<◌, ◌+◌, ◌*◌, ◌∷◌, ℕ, List, [], Bool, true, false, not, Option, Some, None, IfSome, IsTrue, length, ◌==◌, if◌then◌else◌}
+use Rattle.std.specs.Prelude.{◌≡◌, ◌⊎◌, ◌≤◌, ◌<◌, ◌+◌, ◌∷◌, ℕ, List, [], Bool, true, false, not, Option, Some, None, IfSome, IsTrue, length}
 use Rattle.sha2.specs.Sha256.{sha256}
 use Rattle.smp_model.specs.declared.device.AbstractDevice.{AbstractDevice}
 use Rattle.smp_model.specs.declared.device.Side.{Side}
-use Rattle.smp_model.specs.declared.device.Sizes.{Sizes}
 use Rattle.smp_model.specs.declared.device.Upload.{Upload}
 use Rattle.smp_model.specs.declared.image.ImageInfo.{ImageInfo}
 use Rattle.smp_model.specs.declared.upload.Announcement.{Announcement}
 use Rattle.smp_model.specs.declared.upload.Mark.{Mark}
-use Rattle.smp_model.specs.ImageGroup.{mark_of, side_of, runs, holds}
+use Rattle.smp_model.specs.ImageGroup.{mark_of, runs, holds}
 use Rattle.smp_model.specs.Meant as meant
 use Rattle.smp_model.specs.Meant.{Meant, image_set}
 use Rattle.smp_model.specs.Said as said
 use Rattle.smp_model.specs.Said.{Said, is_error}
 use Rattle.smp_model.specs.Sides.{SideStep, Choose, Append, Drop, MarkPending, Confirm, side_settle_steps}
-use Rattle.smp_model.specs.Steps.{Change, aim_at, Step, OnSide, Save, Run, apply, applied, settle_steps, settle_steps_of, side_at}
+use Rattle.smp_model.specs.Steps.{Step, OnSide, Save, Run, apply, applied, settle_steps, settle_steps_of, side_at}
 use Rattle.smp_model.specs.Uploads.{IsGood, is_complete, is_spoiled, is_resumed_by, is_tagged_by, uploaded_image}
 
 -- a fact of each step

@@ -230,8 +230,8 @@ pub fn the_next_part_is_kept()
 /// A start is refused, or what it brings is kept but for at most seven bytes, or it goes on with the upload that it announces:
 /// one of the same length and the same digest.
 pub fn the_first_part_is_kept()
-    ensures kept { (sizes : FlashSizes) (d : Device) (image : Option ℕ) (n : ℕ) (sha : Option (List ℕ))
-        (part : List ℕ)
+    ensures kept { (sizes : FlashSizes) (d : Device) (image : Option ℕ) (n : ℕ)
+        (sha : Option (List ℕ)) (part : List ℕ)
         → 0 < sizes.unit → sizes.unit ≤ 8
         → IfSome (side_at (side_of d.target image 0 sha) d)
         (λ s. StartsWith (record { length = n; digest = sha }) (length part)

@@ -10,7 +10,8 @@ use smp_header::{LARGEST_PACKET, PacketBuffer};
 
 /// A key and a whole number.
 pub fn put_number(out: &mut PacketBuffer, key: &str, value: u32)
-    requires { array_vec_len out.old + length (short_text key.now ++ short_head 0 value) ≤ LARGEST_PACKET }
+    requires { array_vec_len out.old + length (short_text key.now ++ short_head 0 value)
+        ≤ LARGEST_PACKET }
     ensures { out.new.items ≡ out.old.items ++ (short_text key.now ++ short_head 0 value) }
 {
     put_text(out, key);
@@ -19,7 +20,8 @@ pub fn put_number(out: &mut PacketBuffer, key: &str, value: u32)
 
 /// A key and a string of bytes.
 pub fn put_bytes(out: &mut PacketBuffer, key: &str, value: &[u8])
-    requires { array_vec_len out.old + length (short_text key.now ++ short_octets value.now) ≤ LARGEST_PACKET }
+    requires { array_vec_len out.old + length (short_text key.now ++ short_octets value.now)
+        ≤ LARGEST_PACKET }
     ensures { out.new.items ≡ out.old.items ++ (short_text key.now ++ short_octets value.now) }
 {
     put_text(out, key);
@@ -28,7 +30,8 @@ pub fn put_bytes(out: &mut PacketBuffer, key: &str, value: &[u8])
 
 /// A key and a text.
 pub fn put_words(out: &mut PacketBuffer, key: &str, value: &str)
-    requires { array_vec_len out.old + length (short_text key.now ++ short_text value.now) ≤ LARGEST_PACKET }
+    requires { array_vec_len out.old + length (short_text key.now ++ short_text value.now)
+        ≤ LARGEST_PACKET }
     ensures { out.new.items ≡ out.old.items ++ (short_text key.now ++ short_text value.now) }
 {
     put_text(out, key);
@@ -37,7 +40,8 @@ pub fn put_words(out: &mut PacketBuffer, key: &str, value: &str)
 
 /// A key and a truth value.
 pub fn put_truth(out: &mut PacketBuffer, key: &str, value: bool)
-    requires { array_vec_len out.old + length (short_text key.now ++ short_bool value) ≤ LARGEST_PACKET }
+    requires { array_vec_len out.old + length (short_text key.now ++ short_bool value)
+        ≤ LARGEST_PACKET }
     ensures { out.new.items ≡ out.old.items ++ (short_text key.now ++ short_bool value) }
 {
     put_text(out, key);

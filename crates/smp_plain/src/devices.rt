@@ -66,7 +66,8 @@ fn add_setting(
     setting: &Setting,
     kept: &Kept<'_>,
 ) -> Result<(), AllocError>
-    ensures { OnOk result (into.new ≡ into.old ++ (if is_kept kept.now setting.now.name then setting.now ∷ [] else [])) }
+    ensures { OnOk result
+        (into.new ≡ into.old ++ (if is_kept kept.now setting.now.name then setting.now ∷ [] else [])) }
 {
     if !is_kept(kept, setting.name.as_slice()) {
         return Ok(());
@@ -83,7 +84,8 @@ fn add_settings(
     settings: &[Setting],
     kept: &Kept<'_>,
 ) -> Result<(), AllocError>
-    ensures { OnOk result (into.new ≡ into.old ++ filter (λ s. is_kept kept.now s.name) settings.now) }
+    ensures { OnOk result
+        (into.new ≡ into.old ++ filter (λ s. is_kept kept.now s.name) settings.now) }
 {
     for setting in settings {
         add_setting(alloc, into, setting, kept)?;
@@ -98,7 +100,8 @@ fn add_file(
     file: &StoredFile,
     kept: &Kept<'_>,
 ) -> Result<(), AllocError>
-    ensures { OnOk result (into.new ≡ into.old ++ (if is_kept kept.now file.now.name then file.now ∷ [] else [])) }
+    ensures { OnOk result
+        (into.new ≡ into.old ++ (if is_kept kept.now file.now.name then file.now ∷ [] else [])) }
 {
     if !is_kept(kept, file.name.as_slice()) {
         return Ok(());

@@ -29,7 +29,8 @@ pub(crate) fn sha256_of(bytes: &[u8]) -> [u8; 32]
 /// The file of a name.
 pub(crate) fn file_of<'a>(files: &'a [StoredFile], name: &str) -> Option<&'a StoredFile>
     ensures value { option_map (λ f. f.now) result ≡ file_of name.now files.now }
-    ensures sound { All (λ f. length f.held ≤ f.announced) files.now → IfSome result (λ f. length f.now.held ≤ f.now.announced) }
+    ensures sound { All (λ f. length f.held ≤ f.announced) files.now
+        → IfSome result (λ f. length f.now.held ≤ f.now.announced) }
     ensures named { IfSome result (λ f. f.now.name ≡ name.now) }
 {
     files.iter().find(|f| f.name.as_slice() == name.as_bytes())
@@ -169,7 +170,8 @@ pub(crate) fn hashes_file<'a>(
     len: Option<u32>,
 ) -> PlainResponse<'a>
     requires { All (λ f. length f.held ≤ f.announced) files.now }
-    ensures { response_of result ≡ hashes_file files.now name.now (option_map (λ k. k.now) kind.entry) off len }
+    ensures { response_of result
+        ≡ hashes_file files.now name.now (option_map (λ k. k.now) kind.entry) off len }
 {
     if !is_name(name) {
         return refused_file(FILE_NAME_LENGTH);
@@ -214,7 +216,9 @@ fn begins_file<'a>(
 /// The response where a file is begun.
 fn begun<'a>(name: &'a str, len: u32, part: &'a [u8]) -> PlainResponse<'a>
     requires { length part.now ≤ len }
-    ensures { response_of result ≡ responds (said.offset (length part.now) None) (Run (begin_file name.now len part.now) ∷ []) }
+    ensures { response_of result
+        ≡ responds (said.offset (length part.now) None)
+        (Run (begin_file name.now len part.now) ∷ []) }
 {
     let reply = Reply::Offset {
         off: part.len() as u32,

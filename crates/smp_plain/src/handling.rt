@@ -137,7 +137,8 @@ fn answered(
     requires operation { (packet.now.op ≡ 0) ⊎ (packet.now.op ≡ 2) }
     requires version { packet.now.version ≤ 3 }
     requires fits { length packet.now.bytes.now + HEADER ≤ LARGEST_PACKET }
-    ensures { IfOk result (λ h. handled_of h ≡ answered sizes.now device.now (message_of packet.now)) }
+    ensures { IfOk result
+        (λ h. handled_of h ≡ answered sizes.now device.now (message_of packet.now)) }
 {
     match request_of(packet) {
         Err(number) => refused(alloc, device, packet, number),

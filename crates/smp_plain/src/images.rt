@@ -128,7 +128,8 @@ fn first_entry(active: &[u8], confirmed: bool) -> SlotEntry
 /// What a list says of slot 1.
 fn entry_of_upload(upload: Option<&Upload>, pending: Option<Mark>) -> Option<SlotEntry>
     requires { IfSome upload (λ u. length u.now.accepted ≤ u.now.announcement.length) }
-    ensures { result ≡ option_map (second_entry pending) (uploaded_image (option_map (λ u. u.now) upload.entry)) }
+    ensures { result
+        ≡ option_map (second_entry pending) (uploaded_image (option_map (λ u. u.now) upload.entry)) }
 {
     match uploaded_image(upload) {
         Some(info) => Some(second_entry(pending, &info)),
@@ -184,7 +185,8 @@ fn lists_stepped<'a>(
     then: &DeviceView<'_>,
 ) -> PlainResponse<'a>
     requires sound { IsSound (device_seen then.now) }
-    requires step { device_seen then.now ≡ apply (OnSide image (side_step_of step)) (device_seen seen.now) }
+    requires step { device_seen then.now
+        ≡ apply (OnSide image (side_step_of step)) (device_seen seen.now) }
     ensures value { response_of result
         ≡ lists_after (OnSide image (side_step_of step.entry) ∷ []) (device_seen seen.now) }
     ensures few { length result.steps.items ≤ 3 }
@@ -363,7 +365,8 @@ pub(crate) fn sets_image<'a>(
     confirm: bool,
 ) -> PlainResponse<'a>
     requires { IsSound device.now }
-    ensures { response_of result ≡ sets_image device.now (option_map (λ h. h.now) hash.entry) confirm }
+    ensures { response_of result
+        ≡ sets_image device.now (option_map (λ h. h.now) hash.entry) confirm }
 {
     let Some(hash) = hash else {
         return sets_no_hash(device, confirm);

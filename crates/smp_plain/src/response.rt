@@ -144,7 +144,8 @@ pub(crate) fn refused_part<'a>(number: u32) -> PlainSideResponse<'a>
 
 /// A reply and one step of a side.
 pub(crate) fn side_responded<'a>(reply: Reply<'a>, step: PlainSideStep<'a>) -> PlainSideResponse<'a>
-    ensures value { side_response_of result ≡ side_responds (said_of reply.entry) (side_step_of step.entry ∷ []) }
+    ensures value { side_response_of result
+        ≡ side_responds (said_of reply.entry) (side_step_of step.entry ∷ []) }
     ensures few { length result.steps.items ≡ 1 }
 {
     let mut steps = ArrayVec::new();
@@ -193,7 +194,8 @@ fn add_steps<'a>(all: &mut ArrayVec<PlainStep<'a>, 5>, steps: &[PlainStep<'a>])
 /// Adds the steps by which a side settles.
 fn add_settling<'a>(all: &mut ArrayVec<PlainStep<'a>, 5>, image: u32, side: &Side)
     requires { length all.old.items ≤ 4 }
-    ensures value { steps_of all.new.items ≡ steps_of all.old.items ++ on_side image (side_settle_steps side.now) }
+    ensures value { steps_of all.new.items
+        ≡ steps_of all.old.items ++ on_side image (side_settle_steps side.now) }
     ensures few { length all.new.items ≤ length all.old.items + 1 }
 {
     if is_spoiled(&side.upload) {
@@ -216,7 +218,8 @@ fn is_offset(reply: &Reply<'_>) -> bool
 /// Adds the step that moves the target of parts, where the reply to a start is an offset.
 fn add_aim<'a>(all: &mut ArrayVec<PlainStep<'a>, 5>, image: u32, reply: &Reply<'_>)
     requires { length all.old.items ≤ 4 }
-    ensures value { steps_of all.new.items ≡ steps_of all.old.items ++ aims image (said_of reply.now) }
+    ensures value { steps_of all.new.items
+        ≡ steps_of all.old.items ++ aims image (said_of reply.now) }
     ensures few { length all.new.items ≤ length all.old.items + 1 }
 {
     if is_offset(reply) {

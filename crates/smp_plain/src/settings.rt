@@ -67,7 +67,8 @@ fn is_value(val: &[u8]) -> bool
 
 /// The size with that of a setting added, where it is to be; at most the greatest number.
 fn added(size: usize, setting: &Setting, is_there: bool) -> usize
-    ensures { result ≡ min (size + (if is_there then length (stored_setting setting.now) else 0)) (2 ^ 64 - 1) }
+    ensures { result
+        ≡ min (size + (if is_there then length (stored_setting setting.now) else 0)) (2 ^ 64 - 1) }
 {
     if is_there {
         let name = setting.name.as_slice().len();
@@ -92,7 +93,8 @@ fn added_beside(size: usize, setting: &Setting, name: &str) -> usize
 
 /// The length of the stored form once a setting is written; at most the greatest number.
 fn written_size(settings: &[Setting], name: &str, val: &[u8]) -> usize
-    ensures { result ≡ min (length (stored_form (written_setting name.now val.now settings.now))) (2 ^ 64 - 1) }
+    ensures { result
+        ≡ min (length (stored_form (written_setting name.now val.now settings.now))) (2 ^ 64 - 1) }
 {
     let mut size = 4usize.saturating_add(name.len()).saturating_add(val.len());
     for setting in settings {

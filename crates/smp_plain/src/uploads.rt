@@ -241,7 +241,8 @@ fn start_at<'a>(
 ) -> PlainSideResponse<'a>
     requires unit { 0 < unit }
     requires sound { IfSome upload (λ u. length u.now.accepted ≤ u.now.announcement.length) }
-    ensures value { side_response_of result ≡ start_at unit announcement bytes.now pending (option_map (λ u. u.now) upload.entry) }
+    ensures value { side_response_of result
+        ≡ start_at unit announcement bytes.now pending (option_map (λ u. u.now) upload.entry) }
     ensures few { length result.steps.items ≤ 3 }
 {
     let Some(upload) = upload else {
@@ -262,7 +263,8 @@ fn start_at<'a>(
 /// The announcement of a start; none where the digest has not 32 bytes.
 fn announced(length: u32, sha: Option<&[u8]>) -> Option<Announcement>
     ensures there { is_some result ≡ not (has_wrong_size (option_map (λ s. s.now) sha.entry)) }
-    ensures value { IfSome result (λ a. a ≡ record { length = length; digest = option_map (λ s. s.now) sha.entry }) }
+    ensures value { IfSome result
+        (λ a. a ≡ record { length = length; digest = option_map (λ s. s.now) sha.entry }) }
 {
     let Some(sha) = sha else {
         return Some(Announcement {
@@ -302,7 +304,10 @@ fn is_complete(upload: &Upload) -> bool
 
 /// The upload is complete, and its bytes have the digest that was announced, where one was.
 pub(crate) fn is_whole(upload: &Upload) -> bool
-    ensures { result ≡ (is_complete upload.now && not (differs upload.now.announcement.digest upload.now.accepted)) }
+    ensures { result
+        ≡
+        (is_complete upload.now
+        && not (differs upload.now.announcement.digest upload.now.accepted)) }
 {
     let has_digest = !differs(&upload.announcement.digest, upload.accepted.as_slice());
     is_complete(upload) && has_digest
@@ -402,7 +407,8 @@ fn uploads_to<'a>(
 
 /// The image of a start or a part, by the target of parts.
 fn side_of(target: u32, part: &UploadPart<'_>) -> u32
-    ensures { result ≡ side_of target part.now.image part.now.off (option_map (λ s. s.now) part.now.sha) }
+    ensures { result
+        ≡ side_of target part.now.image part.now.off (option_map (λ s. s.now) part.now.sha) }
 {
     match part.image {
         Some(image) => image,

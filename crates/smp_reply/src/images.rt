@@ -35,7 +35,8 @@ fn text_of(version: &Version) -> ArrayString<24>
 /// What is said of one slot.
 #[tactic(auto, unfolding(smp_cbor::specs::Shortest::shortest, smp_cbor::specs::Shortest::shortest_pairs))]
 fn put_entry(out: &mut PacketBuffer, image: Option<u32>, entry: &SlotEntry)
-    requires { array_vec_len out.old + length (shortest (entry_value (image, entry.now))) ≤ LARGEST_PACKET }
+    requires { array_vec_len out.old + length (shortest (entry_value (image, entry.now)))
+        ≤ LARGEST_PACKET }
     ensures { out.new.items ≡ out.old.items ++ shortest (entry_value (image, entry.now)) }
 {
     match image {

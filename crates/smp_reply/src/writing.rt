@@ -121,7 +121,8 @@ fn put_group_error(out: &mut PacketBuffer, version: u8, group: u16, number: u32)
 /// `{"buf_size": 2048, "buf_count": 1}`
 #[tactic(auto, unfolding(smp_cbor::specs::Shortest::shortest, smp_cbor::specs::Shortest::shortest_pairs))]
 fn put_parameters(out: &mut PacketBuffer)
-    requires { array_vec_len out.old + length (shortest (reply_value 1 said.parameters)) ≤ LARGEST_PACKET }
+    requires { array_vec_len out.old + length (shortest (reply_value 1 said.parameters))
+        ≤ LARGEST_PACKET }
     ensures { out.new.items ≡ out.old.items ++ shortest (reply_value 1 said.parameters) }
 {
     put_map(out, 2);
@@ -215,7 +216,8 @@ fn put_file_hash(out: &mut PacketBuffer, off: u32, len: u32, output: &[u8; 32])
 /// `{"types": {"sha256": {"format": 1, "size": 32}}}`
 #[tactic(auto, unfolding(smp_cbor::specs::Shortest::shortest, smp_cbor::specs::Shortest::shortest_pairs))]
 fn put_file_types(out: &mut PacketBuffer)
-    requires { array_vec_len out.old + length (shortest (reply_value 1 said.file_types)) ≤ LARGEST_PACKET }
+    requires { array_vec_len out.old + length (shortest (reply_value 1 said.file_types))
+        ≤ LARGEST_PACKET }
     ensures { out.new.items ≡ out.old.items ++ shortest (reply_value 1 said.file_types) }
 {
     put_map(out, 1);

@@ -51,7 +51,8 @@ pub fn put_words(out: &mut PacketBuffer, key: &str, value: Option<&str>)
 
 /// A key and a truth value, where there is one.
 pub fn put_truth(out: &mut PacketBuffer, key: &str, value: Option<bool>)
-    requires { array_vec_len out.old + length (pair_bytes key.now (option_map truth value)) ≤ LARGEST_PACKET }
+    requires { array_vec_len out.old + length (pair_bytes key.now (option_map truth value))
+        ≤ LARGEST_PACKET }
     ensures { out.new.items ≡ out.old.items ++ pair_bytes key.now (option_map truth value) }
 {
     if let Some(value) = value {

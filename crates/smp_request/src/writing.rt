@@ -166,7 +166,8 @@ fn write_upload(out: &mut PacketBuffer, part: &UploadPart<'_>)
 }
 
 fn write_setting_read(out: &mut PacketBuffer, name: &str, max_size: Option<u32>)
-    requires { array_vec_len out.old + length (data_of (setting_read name.now max_size)) ≤ LARGEST_PACKET }
+    requires { array_vec_len out.old + length (data_of (setting_read name.now max_size))
+        ≤ LARGEST_PACKET }
     ensures { out.new.items ≡ out.old.items ++ data_of (setting_read name.now max_size) }
 {
     put_map(out, 1 + count_number(max_size));
@@ -175,7 +176,8 @@ fn write_setting_read(out: &mut PacketBuffer, name: &str, max_size: Option<u32>)
 }
 
 fn write_setting_write(out: &mut PacketBuffer, name: &str, val: &[u8])
-    requires { array_vec_len out.old + length (data_of (setting_write name.now val.now)) ≤ LARGEST_PACKET }
+    requires { array_vec_len out.old + length (data_of (setting_write name.now val.now))
+        ≤ LARGEST_PACKET }
     ensures { out.new.items ≡ out.old.items ++ data_of (setting_write name.now val.now) }
 {
     put_map(out, 2);
