@@ -57,9 +57,8 @@ enum Walk<'a> {
 /// How many keys of a map are kept at first: most maps have no more.
 const FEW: usize = 8;
 
-/// How many keys of a map are kept at most, on the stack. They take 5.1 KiB, so that all of reading takes less
-/// than 8 KiB.
-const MANY: usize = 328;
+/// How many keys of a map are kept at most, on the stack. They take 5.4 KiB.
+const MANY: usize = 344;
 
 /// The bytes after the pairs, or the first fault. Each key is sought among those before it.
 pub fn pairs_of(depth: u8, count: Option<u64>, bytes: &[u8]) -> Result<&[u8], Stop>

@@ -19,7 +19,7 @@ const INNER_LEVELS: u8 = 7;
 /// The map that the bytes spell, or the first fault. No bytes are the empty map.
 ///
 /// All of the bytes are tested here, in time linear in their number, but for the search for repeated keys:
-/// that takes each key against all before it. Up to 328 keys are kept for it on the stack; a key behind those
+/// that takes each key against all before it. Up to 344 keys are kept for it on the stack; a key behind those
 /// is sought among them, and by a walk over the pairs since.
 pub fn read_map(bytes: &[u8]) -> Result<MapView<'_>, CborFault>
     // What is read is spelled so, and what is spelled so is read.

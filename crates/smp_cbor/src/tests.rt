@@ -265,7 +265,7 @@ fn many_keys() -> ArrayVec<u8, 2048> {
 #[test]
 fn repeats_late(rt: HostRuntime) {
     // The first key, those on either side of the last that is kept, and the last.
-    for key in [b"Aa", b"Re", b"Rf", b"Zs"] {
+    for key in [b"Aa", b"Sb", b"Sc", b"Zs"] {
         let mut data = many_keys();
         let _ = data.try_extend_from_slice(&[0x62, key[0], key[1], 0, 0xff]);
         let fault = CborFault {
