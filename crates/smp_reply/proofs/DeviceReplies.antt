@@ -22,7 +22,6 @@ use Rattle.smp_model.specs.Counters.{stat_group_reply}
 use Rattle.smp_model.specs.Does.{does}
 use Rattle.smp_model.specs.FileGroup.{refuses_file, if_file, about_file, length_at, reads_held, reads_file, is_sha256, hashes_held, is_no_free_file, begins_file, continues_file, writes_file}
 use Rattle.smp_model.specs.Files.{is_file_name, longest_file, file_of}
-use Rattle.smp_model.specs.Image.{good_image}
 use Rattle.smp_model.specs.ImageGroup.{completes, keeps, takes_part, part_at, begins, new_start, resumes, start_at, side_of, has_wrong_size, begins_with_magic, start_of, part_of, uploads_to, uploads, wants, refuses_image, refuses_part, lists_with, mark_of, same_mark, marks, confirms, runs, holds, confirms_on, marks_on, sets_hash, sets_no_hash, sets_image, erase_of, erases_on, erases}
 use Rattle.smp_model.specs.Meant as meant
 use Rattle.smp_model.specs.Meant.{Meant}

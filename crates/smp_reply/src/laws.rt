@@ -15,7 +15,7 @@ ghost use Rattle.smp_reply.specs.StandsFor.{stands_for};
 ghost use Rattle.smp_reply.specs.Told.{told};
 
 use crate::answer::Asked;
-use smp_cbor::shortest_is_read;
+use smp_cbor::{heads_are_short, shortest_is_read};
 use smp_header::{LARGEST_PACKET, Packet};
 use smp_model::memory::{bytes_are_counted, hashes_have_32_bytes, texts_are_utf8};
 use smp_model::{Reply, SidePair, SlotEntry, Version, keys_are_texts, plain_maps_are_written};
@@ -46,6 +46,7 @@ pub fn fits_within(reply: &Reply<'_>)
     ensures { (to : Message)
         → length (reply_bytes to (said_of reply.now)) ≤ room_of (said_of reply.now) }
 {
+    heads_are_short();
     held(reply);
 }
 

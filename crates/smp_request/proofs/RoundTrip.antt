@@ -1,5 +1,5 @@
 -- A request that is written means that request.
-use Rattle.std.proofs.Common.{◌≡◌, ℕ, ◌^◌, ◌<◌, ◌≤◌, List, Bool, true, false, cond, Option, Some, None, Ok, refl, length, eqb, arith, ap, ◌∙◌}
+use Rattle.std.proofs.Common.{◌≡◌, ℕ, ◌^◌, ◌<◌, ◌≤◌, List, Bool, true, false, Option, Some, None, Ok, refl, length, arith, ap, ◌∙◌}
 use Rattle.std.specs.Prelude.{option_map, nat_lt}
 use Rattle.std.proofs.lemmas.Bool.Decides.{nat_tests}
 use Rattle.smp_header.specs.Message.{packet}
@@ -10,7 +10,7 @@ use Rattle.smp_cbor.specs.Laws.{ShortestIsRead}
 use Rattle.smp_model.specs.Table.{number, words, bytes, truth, a_number, a_text, some_bytes, a_truth, required, optional, counts_as, always, table, name_at, operation_of}
 use Rattle.smp_model.specs.Meant.{Meant, echo, reset, parameters, image_list, image_set, upload, erase, stat_group, stat_list, setting_read, setting_write, setting_delete, commit, load, save, file_read, file_write, file_status, file_hash, file_types, file_close, name_of, fields_of, made}
 use Rattle.smp_model.specs.Meaning.{field, by_need, fields, by_row, meaning}
-use Rattle.smp_model.specs.Written.{field_value, unless_number, written_field, written_pairs, request_value, request_message, request_bytes}
+use Rattle.smp_model.specs.Written.{field_value, written_field, written_pairs, request_value, request_message, request_bytes}
 use Rattle.smp_request.specs.Held.{CanHold, CanHoldEach}
 use Rattle.smp_request.proofs.Again.{number_again, words_again, bytes_again}
 use Rattle.smp_request.proofs.Rows.{named_again, sound_keys, is_small}
