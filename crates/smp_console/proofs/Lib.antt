@@ -1,3 +1,4 @@
+pub mod Collecting
 mod LineLaws
 pub mod Cuts
 pub mod Reading

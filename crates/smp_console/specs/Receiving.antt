@@ -1,10 +1,10 @@
 -- What a receiver holds, and how it agrees with the text that it has read.
-use Rattle.std.specs.Prelude.{◌≡◌, ℕ, ◌<◌, ◌≤◌, Bool, if◌then◌else◌, IsTrue, IsFalse, List, [], ◌∷◌, ◌++◌, length, take, Option, Some, None}
+use Rattle.std.specs.Prelude.{◌≡◌, ℕ, ◌<◌, ◌≤◌, Bool, true, if◌then◌else◌, IsTrue, IsFalse, List, [], ◌∷◌, ◌++◌, length, take, Option, Some, None}
 use Rattle.smp_console.specs.declared.receiving.Fed.{Fed}
 use Rattle.smp_console.specs.Lines.{unended}
 use Rattle.smp_console.specs.declared.gathering.Collected.{Collected}
 use Rattle.smp_console.specs.declared.gathering.Collected.TheVariants.{More, Lost, Whole}
-use Rattle.smp_console.specs.Frames.{Collection, more, lost, whole, outcome, progress, frames}
+use Rattle.smp_console.specs.Frames.{Collection, more, lost, whole, collection, Outcome, outcome, progress, frames}
 
 -- The bytes are this collection.
 abbrev pub Sees : Collected → Collection → Type 0
@@ -26,6 +26,17 @@ pub record Received : Type 0 where
 -- The packet, where one was found.
 abbrev pub some_if : Bool → List ℕ → Option (List ℕ)
 some_if is_found packet = if is_found then Some packet else None
+
+-- Bytes that were begun are some of those of a packet, which lacks more.
+abbrev pub Waits : Bool → List ℕ → Type 0
+Waits is_begun collected = is_begun ≡ true → (2 ≤ length collected) × (collection collected ≡ more)
+
+-- What is left of a packet that is collected, and of the last one that was found, where this is the outcome.
+pub record Leaves (by : Outcome) (is_begun : Bool) (collected before packet : List ℕ) (is_found : Bool) : Type 0 where
+  pub outcome : by ≡ record { collected = some_if is_begun collected; packet = some_if is_found packet }
+  pub waits : Waits is_begun collected
+  pub kept : IsFalse is_found → packet ≡ before
+  pub fits : length before ≤ 2048 → length packet ≤ 2048
 
 -- What reading a line does.
 pub record TakesLine (old now : Gathered) (line : List ℕ) (is_found : Bool) : Type 0 where

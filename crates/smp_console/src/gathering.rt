@@ -1,9 +1,9 @@
 // The packet that lines give.
 ghost use Rattle.std.specs.Prelude.{◌≡◌, ◌≤◌, ◌+◌, ◌++◌, length, true, [], None, IsFalse};
-ghost use Rattle.smp_console.specs.Frames.{collection, outcome_of};
-ghost use Rattle.smp_console.specs.Receiving.{TakesLine, some_if, Sees};
+ghost use Rattle.smp_console.specs.Frames.{collection, outcome_of, outcome_of_first, outcome_of_next};
+ghost use Rattle.smp_console.specs.Receiving.{TakesLine, Leaves, Waits, some_if, Sees};
 
-use arrayvec::ArrayVec;
+use crate::bytes::Bytes;
 use smp_line::{Line, crc16, read_line};
 use std::marker::Model;
 
@@ -39,22 +39,12 @@ fn look_at(bytes: &[u8]) -> Collected<'_>
     }
 }
 
-/// Adds bytes to those that were collected, which may complete a packet.
-fn collect(
-    collected: &mut ArrayVec<u8, 2052>,
-    is_begun: &mut bool,
-    packet: &mut ArrayVec<u8, 2048>,
-    bytes: &[u8],
-) -> bool
-    requires { 2 ≤ length (collected.old.items ++ bytes.now) }
-    ensures outcome { outcome_of (collected.old.items ++ bytes.now) ≡ record { collected = some_if is_begun.new collected.new.items; packet = some_if result packet.new.items } }
-    ensures kept { IsFalse result → packet.new.items ≡ packet.old.items }
-    ensures begun { is_begun.new ≡ true → 2 ≤ length collected.new.items }
+/// Looks at what was collected, which may be all bytes of a packet.
+fn settle(collected: &Bytes, is_begun: &mut bool, packet: &mut Bytes) -> bool
+    requires { 2 ≤ length collected.now }
+    ensures { Leaves (outcome_of collected.now) is_begun.new collected.now packet.old packet.new result }
 {
     *is_begun = false;
-    if collected.try_extend_from_slice(bytes).is_err() {
-        return false;
-    }
     match look_at(collected.as_slice()) {
         Collected::More => {
             *is_begun = true;
@@ -62,31 +52,69 @@ fn collect(
         }
         Collected::Lost => false,
         Collected::Whole(whole) => {
-            packet.clear();
-            let _ = packet.try_extend_from_slice(whole);
+            packet.set(whole);
             true
         }
     }
+}
+
+/// Begins a packet with the bytes of a first line, where there are at least two.
+fn begin(collected: &mut Bytes, is_begun: &mut bool, packet: &mut Bytes, bytes: &[u8]) -> bool
+    requires { length bytes.now ≤ 384 }
+    ensures { Leaves (outcome_of_first bytes.now) is_begun.new collected.new packet.old packet.new result }
+{
+    if bytes.len() < 2 {
+        *is_begun = false;
+        return false;
+    }
+    collected.set(bytes);
+    settle(collected, is_begun, packet)
+}
+
+/// Adds bytes to those that were collected.
+fn collect(collected: &mut Bytes, is_begun: &mut bool, packet: &mut Bytes, bytes: &[u8]) -> bool
+    requires { 2 ≤ length collected.old }
+    ensures { Leaves (outcome_of (collected.old ++ bytes.now)) is_begun.new collected.new packet.old packet.new result }
+{
+    if !collected.add(bytes) {
+        *is_begun = false;
+        return false;
+    }
+    settle(collected, is_begun, packet)
+}
+
+/// Goes on with a packet that was begun, where there is one.
+fn go_on(collected: &mut Bytes, is_begun: &mut bool, packet: &mut Bytes, bytes: &[u8]) -> bool
+    requires { Waits is_begun.old collected.old }
+    ensures { Leaves (outcome_of_next (some_if is_begun.old collected.old) bytes.now) is_begun.new collected.new packet.old packet.new result }
+{
+    if !*is_begun {
+        return false;
+    }
+    if bytes.is_empty() {
+        return false;
+    }
+    collect(collected, is_begun, packet, bytes)
 }
 
 /// The bytes that were collected of a packet, and the last packet that was found.
 #[derive(Drop)]
 pub(crate) struct Gathering {
     bytes: [u8; 384],
-    collected: ArrayVec<u8, 2052>,
+    collected: Bytes,
     is_begun: bool,
-    packet: ArrayVec<u8, 2048>,
+    packet: Bytes,
 }
 
 impl Model for Gathering {
-    ghost use Rattle.std.specs.Prelude.{◌≡◌, ◌≤◌, length, true};
-    ghost use Rattle.smp_console.specs.Receiving.{Gathered, some_if};
+    ghost use Rattle.std.specs.Prelude.{◌≤◌, length};
+    ghost use Rattle.smp_console.specs.Receiving.{Gathered, Waits, some_if};
 
     ghost Value = { Gathered };
 
-    ghost view = { λ g. record { collected = some_if g.is_begun g.collected.items; packet = g.packet.items } };
+    ghost view = { λ g. record { collected = some_if g.is_begun g.collected; packet = g.packet } };
 
-    ghost invariant = { λ g. g.is_begun ≡ true → 2 ≤ length g.collected.items };
+    ghost invariant = { λ g. Waits g.is_begun g.collected × (length g.packet ≤ 2048) };
 }
 
 impl Gathering {
@@ -96,9 +124,9 @@ impl Gathering {
     {
         Gathering {
             bytes: [0; 384],
-            collected: ArrayVec::new(),
+            collected: Bytes::new(),
             is_begun: false,
-            packet: ArrayVec::new(),
+            packet: Bytes::new(),
         }
     }
 
@@ -115,26 +143,23 @@ impl Gathering {
         ensures { TakesLine self.old self.new line.now result }
     {
         match read_line(line, &mut self.bytes) {
-            Line::First(count) if count >= 2 => {
-                self.collected.clear();
-                collect(
-                    &mut self.collected,
-                    &mut self.is_begun,
-                    &mut self.packet,
-                    &self.bytes[..count],
-                )
-            }
-            Line::Next(count) if self.is_begun => collect(
+            Line::First(count) => begin(
                 &mut self.collected,
                 &mut self.is_begun,
                 &mut self.packet,
                 &self.bytes[..count],
             ),
-            Line::Foreign => false,
-            _ => {
+            Line::Next(count) => go_on(
+                &mut self.collected,
+                &mut self.is_begun,
+                &mut self.packet,
+                &self.bytes[..count],
+            ),
+            Line::Bad => {
                 self.is_begun = false;
                 false
             }
+            Line::Foreign => false,
         }
     }
 }
