@@ -289,7 +289,24 @@ impl<M: Medium> Flash for FileFlash<M> {
         self.geometry
     }
 
-    fn read(&mut self, at: u32, into: &mut [u8]) -> Result<(), FlashFault> {
+    /// It fails only where the medium did.
+    fn read(&mut self, at: u32, into: &mut [u8]) -> Result<(), FlashFault>
+        requires { at + length into.old ≤ size_of self.old.geometry }
+        ensures acts { Reads at (length into.old) (end_of Read result)
+            (file_state (M.held self.old.medium) self.old.geometry
+            self.old.failed_reads self.old.failed_writes self.old.failed_erases)
+            (file_state (M.held self.new.medium) self.new.geometry
+            self.new.failed_reads self.new.failed_writes self.new.failed_erases) }
+        ensures kept { behind (M.held self.new.medium) ≡ behind (M.held self.old.medium) }
+        ensures bytes { OnOk result (IfSome (behind (M.held self.old.medium))
+            (λ held. into.new ≡ area at (length into.old) held)) }
+        ensures uncut { (file_state (M.held self.old.medium) self.old.geometry
+            self.old.failed_reads self.old.failed_writes self.old.failed_erases).on ≡ true
+            → (file_state (M.held self.old.medium) self.old.geometry
+            self.old.failed_reads self.old.failed_writes self.old.failed_erases).aim ≢ None
+            → end_of Read result ≢ WentOff }
+        ensures cause { HasCause (M.faults self.old.medium) (M.faults self.new.medium) result }
+    {
         match self.medium.get(place(at), into) {
             Ok(()) => Ok(()),
             Err(MediumFailed) => {
@@ -299,7 +316,24 @@ impl<M: Medium> Flash for FileFlash<M> {
         }
     }
 
-    fn write(&mut self, at: u32, bytes: &[u8]) -> Result<(), FlashFault> {
+    /// It fails only where the medium did.
+    fn write(&mut self, at: u32, bytes: &[u8]) -> Result<(), FlashFault>
+        requires inside { at + length bytes.now ≤ size_of self.old.geometry }
+        requires place { at % self.old.geometry.unit ≡ 0 }
+        requires whole { length bytes.now % self.old.geometry.unit ≡ 0 }
+        requires erased { IfSome (behind (M.held self.old.medium))
+            (λ held. area at (length bytes.now) held ≡ blank (length bytes.now)) }
+        ensures acts { Writes at bytes.now (end_of Write result)
+            (file_state (M.held self.old.medium) self.old.geometry
+            self.old.failed_reads self.old.failed_writes self.old.failed_erases)
+            (file_state (M.held self.new.medium) self.new.geometry
+            self.new.failed_reads self.new.failed_writes self.new.failed_erases) }
+        ensures ok { OnOk result (Told (Holds at bytes.now)
+            (behind (M.held self.old.medium)) (behind (M.held self.new.medium))) }
+        ensures err { OnErr result (Told (Keeps (spot at (length bytes.now)))
+            (behind (M.held self.old.medium)) (behind (M.held self.new.medium))) }
+        ensures cause { HasCause (M.faults self.old.medium) (M.faults self.new.medium) result }
+    {
         match write_behind(&mut self.medium, self.keeping, at, bytes) {
             Ok(()) => Ok(()),
             Err(MediumFailed) => {
@@ -309,7 +343,20 @@ impl<M: Medium> Flash for FileFlash<M> {
         }
     }
 
-    fn erase(&mut self, page: u32) -> Result<(), FlashFault> {
+    /// It fails only where the medium did.
+    fn erase(&mut self, page: u32) -> Result<(), FlashFault>
+        requires { (page + 1) * self.old.geometry.page ≤ size_of self.old.geometry }
+        ensures acts { Erases (page * self.old.geometry.page) (end_of Erase result)
+            (file_state (M.held self.old.medium) self.old.geometry
+            self.old.failed_reads self.old.failed_writes self.old.failed_erases)
+            (file_state (M.held self.new.medium) self.new.geometry
+            self.new.failed_reads self.new.failed_writes self.new.failed_erases) }
+        ensures ok { OnOk result (Told (Erased (page * self.old.geometry.page) self.old.geometry.page)
+            (behind (M.held self.old.medium)) (behind (M.held self.new.medium))) }
+        ensures err { OnErr result (Told (Fades (page * self.old.geometry.page) self.old.geometry.page)
+            (behind (M.held self.old.medium)) (behind (M.held self.new.medium))) }
+        ensures cause { HasCause (M.faults self.old.medium) (M.faults self.new.medium) result }
+    {
         let size = self.geometry.page;
         match clear_behind(&mut self.medium, self.keeping, page * size, size) {
             Ok(()) => Ok(()),

@@ -65,7 +65,6 @@ fn heads_are_written_as_they_are_said(rt: HostRuntime) -> Result<(), Fail> {
         assert_eq!(rt; &medium.as_slice()[..32], want);
         let mut flash = FileFlash::over(medium, Keeping::System).ok_or("no flash")?;
         assert_eq!(rt; flash.geometry(), sizes);
-        assert_eq!(rt; flash.write(0, b"abcdefgh"), Ok(()));
         assert_eq!(rt; flash.create("any", sizes), Ok(()));
         assert_eq!(rt; flash.attach("any"), Ok(()));
         let mut bytes = [0u8; 8];
