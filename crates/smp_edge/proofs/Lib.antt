@@ -1,2 +1,5 @@
 pub mod Fronts
 pub mod Writes
+pub mod Takings
+pub mod Listed
+pub mod Spelled

@@ -1,10 +1,22 @@
 // Each object once, with values worked out by hand.
-use crate::folder_files::read_whole;
 use crate::{
-    Block, Calls, Files, LoadFault, MemFiles, MemSink, Octets, Sink, SteadyFiles, SteadySink,
-    WriterSink,
+    Block, Calls, Files, Heard, Link, LoadFault, MemFiles, MemLink, MemSink, MemSource, Octets,
+    Peer, Role, Scripted, Sink, Source, SteadyFiles, SteadyLink, SteadySink, SteadySource,
 };
+use std::alloc::{AllocError, Global};
 use std::test::Fail;
+
+mod real;
+
+const OWN: Peer = Peer {
+    address: 1,
+    port: 2,
+};
+
+const OTHER: Peer = Peer {
+    address: 3,
+    port: 4,
+};
 
 #[test]
 fn sinks_keep_what_was_put(rt: HostRuntime) -> Result<(), Fail> {
@@ -19,27 +31,6 @@ fn sinks_keep_what_was_put(rt: HostRuntime) -> Result<(), Fail> {
     assert!(rt; out.put(b"x").is_err());
     assert!(rt; out.put(b"y").is_ok());
     assert_eq!(rt; out.written(), b"abcdefy".as_slice());
-    let mut room = [0u8; 3];
-    let mut real = WriterSink::new(room.as_mut_slice());
-    assert!(rt; real.put(b"ab").is_ok());
-    assert!(rt; real.put(b"cd").is_err());
-    Ok(())
-}
-
-#[test]
-fn readers_are_read_whole(rt: HostRuntime) -> Result<(), Fail> {
-    let long = [7u8; 40_000];
-    for (size, limit, want) in [
-        (0, 0, Ok(0)),
-        (40_000, 40_000, Ok(40_000)),
-        (40_000, 39_999, Err(LoadFault::TooLong)),
-    ] {
-        let mut reader = &long[..size];
-        match read_whole(rt.alloc(), &mut reader, limit) {
-            Ok(bytes) => assert_eq!(rt; Ok(bytes.as_slice().len()), want),
-            Err(fault) => assert_eq!(rt; Err(fault), want),
-        }
-    }
     Ok(())
 }
 
@@ -73,5 +64,71 @@ fn files_are_loaded_whole(rt: HostRuntime) -> Result<(), Fail> {
         Ok(held) => assert!(rt; held.as_slice().is_empty()),
         Err(_) => assert!(rt; false),
     }
+    Ok(())
+}
+
+#[test]
+fn sources_give_pieces_to_the_end(rt: HostRuntime) -> Result<(), Fail> {
+    let alloc = rt.alloc();
+    let held = || Octets::from_slice(alloc, b"abcde");
+    let mut source = MemSource::new(held()?, Calls::from_slice(alloc, &[2])?);
+    let mut steady = SteadySource::new(held()?);
+    let mut into = [0u8; 3];
+    assert_eq!(rt; source.take(&mut into), Ok(3));
+    assert!(rt; source.take(&mut into).is_err());
+    assert_eq!(rt; source.take(&mut into), Ok(2));
+    assert_eq!(rt; into, *b"dec");
+    assert_eq!(rt; source.take(&mut into), Ok(0));
+    for want in [3, 2, 0] {
+        assert_eq!(rt; steady.take(&mut into), Ok(want));
+    }
+    Ok(())
+}
+
+fn abc(alloc: Global) -> Result<Scripted, AllocError> {
+    Ok(Scripted::Packet {
+        from: OTHER,
+        held: Octets::from_slice(alloc, b"abc")?,
+    })
+}
+
+const CUT: Heard = Heard::Packet {
+    from: OTHER,
+    length: 2,
+};
+
+#[test]
+fn links_hear_their_script(rt: HostRuntime) -> Result<(), Fail> {
+    let alloc = rt.alloc();
+    let mut link = MemLink::new(alloc, OWN, Calls::from_slice(alloc, &[3])?);
+    let mut into = [0u8; 2];
+    link.name(Octets::from_slice(alloc, b"x")?, OTHER)?;
+    link.push(Scripted::Quiet)?;
+    link.push(abc(alloc)?)?;
+    assert_eq!(rt; link.attach(Role::Reach, "x"), Ok(OTHER));
+    assert_eq!(rt; link.hear(&mut into), Ok(Heard::Quiet));
+    assert!(rt; link.hear(&mut into).is_err());
+    assert_eq!(rt; link.hear(&mut into), Ok(CUT));
+    assert_eq!(rt; into, *b"ab");
+    assert_eq!(rt; link.hear(&mut into), Ok(Heard::Quiet));
+    assert!(rt; link.send(OTHER, b"hi").is_ok());
+    assert_eq!(rt; link.sent().len(), 1);
+    assert_eq!(rt; link.sent()[0].to, OTHER);
+    assert_eq!(rt; link.sent()[0].held.as_slice(), b"hi".as_slice());
+    Ok(())
+}
+
+#[test]
+fn steady_links_hear_their_script(rt: HostRuntime) -> Result<(), Fail> {
+    let alloc = rt.alloc();
+    let mut link = SteadyLink::new(alloc, OWN);
+    let mut into = [0u8; 2];
+    link.name(Octets::from_slice(alloc, b"x")?, OTHER)?;
+    link.push(abc(alloc)?)?;
+    assert_eq!(rt; link.attach(Role::Reach, "y"), Ok(OWN));
+    assert_eq!(rt; link.attach(Role::Serve, "x"), Ok(OWN));
+    assert!(rt; link.send(OTHER, b"hi").is_ok());
+    assert_eq!(rt; link.hear(&mut into), Ok(CUT));
+    assert_eq!(rt; link.hear(&mut into), Ok(Heard::Quiet));
     Ok(())
 }

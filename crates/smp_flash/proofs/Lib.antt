@@ -8,3 +8,5 @@ pub mod Places
 pub mod Remains
 pub mod Sizes
 pub mod Telling
+pub mod Behind
+pub mod Heads

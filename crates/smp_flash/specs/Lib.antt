@@ -7,3 +7,5 @@ pub mod Memory
 pub mod Region
 pub mod Remains
 pub mod State
+pub mod Head
+pub mod Medium

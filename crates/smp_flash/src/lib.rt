@@ -23,11 +23,18 @@
 
 mod arm;
 mod calls;
+mod file_flash;
+mod file_medium;
+#[cfg(test)]
+mod file_tests;
 mod flash;
 mod geometry;
+mod head;
 mod laws;
 mod layout;
+mod medium;
 mod memory;
+mod memory_medium;
 mod parts;
 mod region;
 mod steady;
@@ -36,6 +43,8 @@ mod tests;
 
 pub use arm::{Arm, ArmKind, Left};
 pub use calls::{clear_page, erase_page, is_erased, read_part, reads_erased, sizes_of, write_part};
+pub use file_flash::{FileFlash, Keeping};
+pub use file_medium::FileMedium;
 pub use flash::{CallFault, Flash, FlashFault, Operation};
 pub use geometry::Geometry;
 pub use laws::{
@@ -44,6 +53,8 @@ pub use laws::{
     spots_spare_what_lies_apart, told_bytes_have_the_size,
 };
 pub use layout::{Area, BankPlace, Layout, SIDE};
+pub use medium::{Medium, MediumFailed};
 pub use memory::MemFlash;
+pub use memory_medium::MemMedium;
 pub use region::{GATE, Region};
 pub use steady::SteadyFlash;
