@@ -1,6 +1,6 @@
 -- How a run ends, and why.
 use Rattle.std.specs.Prelude.{◌≡◌, ◌≢◌, ◌<◌, ◌≤◌, ◌⊎◌, nat_lt, if◌then◌else◌, ℕ, List, length, Option, Some, None, Result, Ok, Err, IfSome, IsSomeAnd}
-use Rattle.smp_edge.specs.Faults.{Rose}
+use Rattle.smp_edge.specs.Faults.{Rose, next_call}
 use Rattle.smp_edge.specs.Sink.{AppendsFront}
 use Rattle.smp_edge.specs.Files.{Folder, HoldsFile}
 use Rattle.smp_app.specs.declared.status.Status.{Status}
@@ -82,6 +82,11 @@ PrintsFront Usage folder words old new = new ≡ old
 PrintsFront (BadSchedule line) folder words old new = new ≡ old
 PrintsFront TooLong folder words old new = new ≡ old
 PrintsFront FileFault folder words old new = new ≡ old
+
+-- The files' count of answered loads once the named schedule was loaded, where one is named.
+abbrev pub answered_after : Option (List ℕ) → ℕ → ℕ
+answered_after None answered = answered
+answered_after (Some name) answered = next_call answered
 
 -- What loading a schedule by its name answers.
 abbrev pub LoadsSchedule : {V : Type 0} → (V → List (List ℕ)) → Folder → List ℕ → Result V Status → Type 0

@@ -1,11 +1,11 @@
 // The top call.
 ghost use Rattle.std.specs.Prelude.{◌≡◌, ◌⊎◌, ◌↔◌, ℕ, List, Some, None, IfSome};
 ghost use Rattle.std.specs.Io.KnownBytes.{append_known};
-ghost use Rattle.smp_edge.specs.Faults.{Rose};
+ghost use Rattle.smp_edge.specs.Faults.{Rose, next_call};
 ghost use Rattle.smp_edge.specs.Sink.{AppendsFront};
 ghost use Rattle.smp_app.specs.Words.{replay_name};
 ghost use Rattle.smp_app.specs.Transcript.{transcript};
-ghost use Rattle.smp_app.specs.Outcome.{due, IsDueUnlessPrevented, IsSchedule, PrintsFront, FileCause, WriteCause, LoadsSchedule, LoadEnds};
+ghost use Rattle.smp_app.specs.Outcome.{due, IsDueUnlessPrevented, IsSchedule, PrintsFront, answered_after, FileCause, WriteCause, LoadsSchedule, LoadEnds};
 
 use crate::Status;
 use crate::replay::write_transcript;
@@ -20,6 +20,7 @@ const MOST_LOADED: u32 = 8_388_608;
 /// The events of the schedule in the file of that name.
 fn load_schedule<D: Files>(alloc: Global, name: &str, files: &mut D) -> Result<Vec<Octets>, Status>
     ensures loads { LoadsSchedule (λ v. v.items) (D.folder files.old) name.now result }
+    ensures once { D.answered files.new ≡ next_call (D.answered files.old) }
     ensures cause { LoadEnds result (D.faults files.old) (D.faults files.new) }
 {
     let text = match files.load(alloc, name, MOST_LOADED) {
@@ -53,6 +54,9 @@ pub fn run<O: Sink, D: Files>(alloc: Global, words: &[Octets], out: &mut O, file
     // Right words, a told file that is not too long and holds a schedule, and no fault: then all is done.
     ensures complete { due (D.folder files.old) words.now ≡ Some Status.Done → ¬ Rose (D.faults files.old) (D.faults files.new)
         → ¬ Rose (O.faults out.old) (O.faults out.new) → (result ≡ Status.Done) ⊎ (result ≡ Status.NoMemory) }
+
+    // The schedule is loaded once, and nothing where the words name none.
+    ensures loaded { D.answered files.new ≡ answered_after (replay_name words.now) (D.answered files.old) }
 
     // All that is written is the transcript of the schedule.
     ensures done { result ≡ Status.Done → ((events : List (List ℕ)) × IsSchedule (D.folder files.old) words.now events
