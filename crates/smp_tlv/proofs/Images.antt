@@ -1,11 +1,11 @@
 -- An image by its tests, one after the other.
 use Rattle.std.proofs.Common.{◌≡◌, ℕ, ◌+◌, ◌<◌, ◌≤◌, Bool, true, false, List, length, take, drop, Option, Some, None, Result, Ok, Err, refl, sym, ap, ◌∙◌, arith}
 use Rattle.std.specs.Prelude.{nat_le, IfSome, IfOk, IfErr, ◌-◌}
+use Rattle.std.proofs.lemmas.Bool.Decides.{nat_tests}
 use Rattle.smp_model.specs.declared.image.ImageHeader.{ImageHeader}
 use Rattle.smp_model.specs.declared.image.ImageInfo.{ImageInfo}
 use Rattle.smp_model.specs.declared.image.ImageFault.{ImageFault}
 use Rattle.smp_model.specs.declared.image.ImageFault.TheVariants.{Short, Protected, Tlvs, NoHash}
-use Rattle.smp_model.proofs.Tlvs.{false_le, true_le}
 use Rattle.smp_model.specs.Image.{image_of, header_of, with_header, with_areas, with_tlvs, covered_of, has_protected}
 use Rattle.smp_flash.specs.declared.flash.FlashFault.{FlashFault}
 use Rattle.smp_flash.specs.Calls.{ReadsAtMost}
@@ -15,11 +15,11 @@ use Rattle.smp_tlv.specs.State.{image_cost}
 
 pub image-short : (b : List ℕ) → length b < 32 → image_of b ≡ Err Short
 unfolding image_of
-image-short b few = let e : nat_le 32 (length b) ≡ false = false_le 32 (length b) few in rw e refl
+image-short b few = let e : nat_le 32 (length b) ≡ false = grind (arith, nat_tests) in rw e refl
 
 pub image-long : (b : List ℕ) → 32 ≤ length b → image_of b ≡ with_header (header_of (take 32 b)) b
 unfolding image_of
-image-long b some = let e : nat_le 32 (length b) ≡ true = true_le 32 (length b) some in rw e refl
+image-long b some = let e : nat_le 32 (length b) ≡ true = grind (arith, nat_tests) in rw e refl
 
 -- by the header that was read, and what its tests found
 pub image-tested : {T : Type 0} (h : ImageHeader) (passed : Result T ImageFault) (b : List ℕ) → 32 ≤ length b → h ≡ header_of (take 32 b)

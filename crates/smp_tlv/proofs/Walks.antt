@@ -5,8 +5,8 @@ use Rattle.std.specs.Option.{option_map}
 use Rattle.std.proofs.lemmas.List.{drop-take, drop-drop, get_or-take}
 use Rattle.smp_flash.specs.Area.{area}
 use Rattle.smp_flash.proofs.Areas.{length-area, area-area}
-use Rattle.smp_model.proofs.Tlvs.{tlvs_short, tlvs_past, next_of}
 use Rattle.smp_model.specs.Image.{Tlv, tlvs_of, number_16}
+use Rattle.smp_model.specs.ImageFaults.{ReadsTlvsInOrder}
 use Rattle.smp_tlv.specs.Walking.{tlvs_between, outcome, only_with, Follows, Adds}
 use Rattle.smp_tlv.specs.declared.tlv.Hashes.TheVariants.{Missing}
 use Rattle.smp_tlv.specs.declared.tlv.Hashes.{Hashes}
@@ -22,16 +22,16 @@ pub tlvs_at_end : (end : ℕ) (held : List ℕ) → tlvs_between end end held �
 unfolding tlvs_of
 tlvs_at_end end held = let e : end - end ≡ 0 = omega arith in rw e refl
 
-pub short_between : (at end : ℕ) (held : List ℕ) → at < end → end - at < 4 → end ≤ length held → tlvs_between at end held ≡ None
-short_between at end held some few inside =
+pub short_between : ReadsTlvsInOrder → (at end : ℕ) (held : List ℕ) → at < end → end - at < 4 → end ≤ length held → tlvs_between at end held ≡ None
+short_between law at end held some few inside =
     let e : length (area at (end - at) held) ≡ end - at = length-area at (end - at) held (omega arith) in
-    tlvs_short (area at (end - at) held) (omega arith) (omega arith)
+    law.short (area at (end - at) held) (omega arith) (omega arith)
 
-pub past_between : (at end : ℕ) (held : List ℕ) (size : ℕ) → at + 4 ≤ end → end ≤ length held → size ≡ number_16 (drop at held) 2 → end < at + 4 + size → tlvs_between at end held ≡ None
-past_between at end held size some inside is past =
+pub past_between : ReadsTlvsInOrder → (at end : ℕ) (held : List ℕ) (size : ℕ) → at + 4 ≤ end → end ≤ length held → size ≡ number_16 (drop at held) 2 → end < at + 4 + size → tlvs_between at end held ≡ None
+past_between law at end held size some inside is past =
     let e : length (area at (end - at) held) ≡ end - at = length-area at (end - at) held (omega arith) in
     let n : number_16 (area at (end - at) held) 2 ≡ number_16 (drop at held) 2 = number-take (end - at) 2 (drop at held) (omega arith) in
-    tlvs_past (area at (end - at) held) (omega arith) (omega arith)
+    law.past (area at (end - at) held) (omega arith) (omega arith)
 
 drop_between : (at end size : ℕ) (held : List ℕ) → at + 4 + size ≤ end → drop size (drop 4 (area at (end - at) held)) ≡ area (at + 4 + size) (end - (at + 4 + size)) held
 drop_between at end size held fits =
@@ -44,27 +44,27 @@ drop_between at end size held fits =
     ∙ (ap (take m) (drop-drop (4 + size) at held)
     ∙ ap (λ k. take m (drop k held)) place)))
 
-pub next_between : (at end : ℕ) (held : List ℕ) (kind size : ℕ) → at + 4 + size ≤ end → end ≤ length held → kind ≡ number_16 (drop at held) 0 → size ≡ number_16 (drop at held) 2
+pub next_between : ReadsTlvsInOrder → (at end : ℕ) (held : List ℕ) (kind size : ℕ) → at + 4 + size ≤ end → end ≤ length held → kind ≡ number_16 (drop at held) 0 → size ≡ number_16 (drop at held) 2
     → tlvs_between at end held ≡ option_map (λ ts. record { kind = kind; value = area (at + 4) size held } ∷ ts) (tlvs_between (at + 4 + size) end held)
-next_between at end held kind size fits inside is_kind is_size =
+next_between law at end held kind size fits inside is_kind is_size =
     let r : List ℕ = area at (end - at) held in
     let e : length r ≡ end - at = length-area at (end - at) held (omega arith) in
     let k : number_16 r 0 ≡ kind = number-take (end - at) 0 (drop at held) (omega arith) ∙ sym is_kind in
     let n : number_16 r 2 ≡ size = number-take (end - at) 2 (drop at held) (omega arith) ∙ sym is_size in
     let value : take size (drop 4 r) ≡ area (at + 4) size held = area-area 4 size at (end - at) held (omega arith) in
-    next_of r kind size (area (at + 4) size held) (area (at + 4 + size) (end - (at + 4 + size)) held) k n (omega arith) value (drop_between at end size held fits)
+    law.next r kind size (area (at + 4) size held) (area (at + 4 + size) (end - (at + 4 + size)) held) k n (omega arith) value (drop_between at end size held fits)
 
 -- what is found with one TLV more
 outcome_adds : (found next : Hashes) (t : Tlv) (o : Option (List Tlv)) → Adds found t next → outcome found (option_map (λ ts. t ∷ ts) o) ≡ outcome next o
 outcome_adds found next t None adds = refl
 outcome_adds found next t (Some ts) adds = ap (λ (h : Option (List ℕ)). Some h) (adds ts)
 
-pub follows_next : (found next : Hashes) (at end kind n size : ℕ) (held : List ℕ) → n ≡ size → at + 4 + n ≤ end → end ≤ length held
+pub follows_next : ReadsTlvsInOrder → (found next : Hashes) (at end kind n size : ℕ) (held : List ℕ) → n ≡ size → at + 4 + n ≤ end → end ≤ length held
     → (kind ≡ number_16 (drop at held) 0) × (size ≡ number_16 (drop at held) 2) → Adds found (record { kind = kind; value = area (at + 4) size held }) next
     → Follows found at end (Some (record { at = at + 4 + n; found = next })) held
-follows_next found next at end kind n size held same fits inside head adds =
+follows_next law found next at end kind n size held same fits inside head adds =
     let value : Adds found (record { kind = kind; value = area (at + 4) n held }) next = subst (λ k. Adds found (record { kind = kind; value = area (at + 4) k held }) next) (sym same) adds in
-    ap (outcome found) (next_between at end held kind n fits inside head.0 (same ∙ head.1))
+    ap (outcome found) (next_between law at end held kind n fits inside head.0 (same ∙ head.1))
     ∙ outcome_adds found next (record { kind = kind; value = area (at + 4) n held }) (tlvs_between (at + 4 + n) end held) value
 
 -- two facts about bytes that may not be told

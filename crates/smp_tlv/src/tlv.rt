@@ -11,6 +11,7 @@ ghost use Rattle.smp_tlv.specs.Walking.{only_with, outcome, tlvs_between, Follow
 
 use crate::bytes::Bytes;
 use smp_flash::FlashFault;
+use smp_model::tlvs_are_read_in_order;
 
 /// The type of the TLV that holds the SHA-256.
 const HASH: u16 = 0x10;
@@ -95,6 +96,7 @@ fn read_tlv<B: Bytes>(b: &mut B, walk: Walk, end: u32) -> Result<Option<Walk>, F
     ensures goes_on { IfOk result (GoesOn walk.at end) }
     ensures follows { IfOk result (λ next. IfSome (B.state b.old).bytes (Follows walk.found walk.at end next)) }
 {
+    tlvs_are_read_in_order();
     if end - walk.at < HEAD {
         return Ok(None);
     }

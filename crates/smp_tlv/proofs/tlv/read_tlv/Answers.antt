@@ -8,19 +8,19 @@ use Rattle.smp_tlv.proofs.tlv.read_tlv.Goals as goal
 pub returns-then-end-walk-lt-HEAD-clause-follows : goal.returns-then-end-walk-lt-HEAD-clause-follows
 returns-then-end-walk-lt-HEAD-clause-follows g c =
     IfSome-map (λ held. length held ≡ (g.B.Bytes.state c.args.b.now).size) _ (g.B.Bytes.state c.args.b.now).bytes
-    (λ held size. ap (outcome c.args.walk.found) (short_between c.args.walk.at c.args.end held c.requires.some c.if-end-walk-lt-HEAD.true (omega arith)))
+    (λ held size. ap (outcome c.args.walk.found) (short_between c.tlvs_are_read_in_order.ensures c.args.walk.at c.args.end held c.requires.some c.if-end-walk-lt-HEAD.true (omega arith)))
     (g.met.B.Bytes.sized c.args.b.now)
 
 pub returns-then-end-value-clause-follows : goal.returns-then-end-value-clause-follows
 returns-then-end-value-clause-follows g c =
     IfSome-two (λ held. length held ≡ (g.B.Bytes.state c.args.b.now).size) _ _ (g.B.Bytes.state c.args.b.now).bytes
-    (λ held size head. ap (outcome c.args.walk.found) (past_between c.args.walk.at c.args.end held c.in_ok-head.head.second (omega arith) (omega arith) head.1 (omega arith)))
+    (λ held size head. ap (outcome c.args.walk.found) (past_between c.tlvs_are_read_in_order.ensures c.args.walk.at c.args.end held c.in_ok-head.head.second (omega arith) (omega arith) head.1 (omega arith)))
     (g.met.B.Bytes.sized c.args.b.now) c.in_ok-head.ensures.head
 
 pub returns-clause-follows : goal.returns-clause-follows
 returns-clause-follows g c =
     IfSome-three (λ held. length held ≡ (g.B.Bytes.state c.args.b.now).size) _ (λ held. Adds c.args.walk.found (record { kind = c.in_ok-head.head.first; value = area (c.args.walk.at + 4) c.in_ok-head.head.second held }) c.in_ok-found.found) _
     (g.B.Bytes.state c.args.b.now).bytes
-    (λ held size head adds. follows_next c.args.walk.found c.in_ok-found.found c.args.walk.at c.args.end c.in_ok-head.head.first c.from-length.result c.in_ok-head.head.second held c.from-length.ensures (omega arith) (omega arith) head adds)
+    (λ held size head adds. follows_next c.tlvs_are_read_in_order.ensures c.args.walk.found c.in_ok-found.found c.args.walk.at c.args.end c.in_ok-head.head.first c.from-length.result c.in_ok-head.head.second held c.from-length.ensures (omega arith) (omega arith) head adds)
     (g.met.B.Bytes.sized c.args.b.now) c.in_ok-head.ensures.head
     (IfSome-same _ _ _ (sym c.in_ok-head.ensures.looks.held) c.in_ok-found.ensures.adds)
