@@ -61,6 +61,7 @@ fn heads_are_written_as_they_are_said(rt: HostRuntime) -> Result<(), Fail> {
             b"SMPFLASH\0\0\x10\0\0\0\0\x01\0\0\0\x04\0\0\0\x02\0\0\0\0\0\0\0\0".as_slice(),
         ),
     ] {
+        assert!(rt; sizes.is_lawful());
         let medium = MemMedium::new(rt.alloc(), sizes)?;
         assert_eq!(rt; &medium.as_slice()[..32], want);
         let mut flash = FileFlash::over(medium, Keeping::System).ok_or("no flash")?;
