@@ -2,3 +2,4 @@ pub mod Walks
 pub mod Images
 pub mod Hashing
 pub mod Parts
+pub mod Carrying

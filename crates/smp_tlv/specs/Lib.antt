@@ -1,3 +1,5 @@
+pub mod Carried
+pub mod Covered
 pub mod Faults
 pub mod Lent
 pub mod Part

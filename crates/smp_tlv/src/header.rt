@@ -1,8 +1,9 @@
 // The header of an image.
-ghost use Rattle.std.specs.Prelude.{◌≡◌, ◌+◌, ◌≤◌, List, ℕ, length, take, IfOk, IfErr, IfSome, OnOk};
+ghost use Rattle.std.specs.Prelude.{◌≡◌, ◌+◌, ◌^◌, ◌<◌, ◌≤◌, List, ℕ, length, take, IfOk, IfErr, IfSome, OnOk};
 ghost use Rattle.smp_flash.specs.State.{end_of};
 ghost use Rattle.smp_flash.specs.declared.flash.Operation.TheVariants.{Read};
 ghost use Rattle.smp_model.specs.Image.{header_of, covered_of, with_header, with_areas};
+ghost use Rattle.smp_tlv.specs.Covered.{header_covers};
 ghost use Rattle.smp_tlv.specs.Faults.{unless, IsOfHeader};
 ghost use Rattle.smp_tlv.specs.State.{Looks};
 
@@ -20,7 +21,7 @@ const HEADER: u16 = 32;
 const ENCRYPTED: u32 = 0x0c;
 
 /// The header that these bytes state.
-fn header_from(bytes: &[u8; 32]) -> ImageHeader
+pub fn header_from(bytes: &[u8; 32]) -> ImageHeader
     ensures { result ≡ header_of bytes.now }
 {
     ImageHeader {
@@ -51,14 +52,12 @@ pub fn read_header<B: Bytes>(b: &mut B) -> Result<ImageHeader, FlashFault>
     Ok(header_from(&bytes))
 }
 
-/// How many bytes the hash of an image with this header is of, where there are `size` bytes; or the first test of the header
-/// that fails.
-pub fn check_header(header: &ImageHeader, size: u32) -> Result<u32, ImageFault>
-    ensures tests { (b : List ℕ) → length b ≡ size → with_header header.now b ≡ unless result (with_areas header.now b) }
-    ensures covered { IfOk result (λ covered. covered ≡ covered_of header.now) }
-    ensures fits { IfOk result (λ covered. covered + 4 ≤ size) }
-    ensures small { OnOk result (header.now.protected_size ≤ 65535) }
+/// How many bytes the hash of an image with this header is of; or the first test of the header alone that fails.
+pub fn covered_by(header: &ImageHeader) -> Result<u64, ImageFault>
+    ensures covered { result ≡ header_covers header.now }
     ensures least { IfOk result (λ covered. 32 + header.now.protected_size ≤ covered) }
+    ensures most { IfOk result (λ covered. covered < 2 ^ 33) }
+    ensures small { OnOk result (header.now.protected_size ≤ 65535) }
     ensures kind { IfErr result IsOfHeader }
 {
     if header.magic != IMAGE_MAGIC {
@@ -70,9 +69,24 @@ pub fn check_header(header: &ImageHeader, size: u32) -> Result<u32, ImageFault>
     if header.flags & ENCRYPTED != 0 {
         return Err(ImageFault::Encrypted);
     }
-    let covered = u64::from(header.header_size)
-        + u64::from(header.image_size)
-        + u64::from(header.protected_size);
+    Ok(
+        u64::from(header.header_size)
+            + u64::from(header.image_size)
+            + u64::from(header.protected_size),
+    )
+}
+
+/// How many bytes the hash of an image with this header is of, where there are `size` bytes; or the first test of the header
+/// that fails.
+pub fn check_header(header: &ImageHeader, size: u32) -> Result<u32, ImageFault>
+    ensures tests { (b : List ℕ) → length b ≡ size → with_header header.now b ≡ unless result (with_areas header.now b) }
+    ensures covered { IfOk result (λ covered. covered ≡ covered_of header.now) }
+    ensures fits { IfOk result (λ covered. covered + 4 ≤ size) }
+    ensures small { OnOk result (header.now.protected_size ≤ 65535) }
+    ensures least { IfOk result (λ covered. 32 + header.now.protected_size ≤ covered) }
+    ensures kind { IfErr result IsOfHeader }
+{
+    let covered = covered_by(header)?;
     if covered + 4 > u64::from(size) {
         return Err(ImageFault::Bounds);
     }

@@ -15,7 +15,7 @@ use smp_flash::FlashFault;
 use smp_model::{ImageFault, ImageInfo};
 
 /// The image, or the first fault of its bytes.
-fn find_image<B: Bytes>(b: &mut B) -> Result<Result<ImageInfo, ImageFault>, FlashFault>
+pub fn find_image<B: Bytes>(b: &mut B) -> Result<Result<ImageInfo, ImageFault>, FlashFault>
     ensures looks { Looks 131102 (end_of Read result) (B.state b.old) (B.state b.new) }
     ensures answer { IfOk result (λ answer. IfSome (B.state b.old).bytes (λ held. answer ≡ image_of held)) }
     ensures cost { IfOk result (λ answer. ReadsAtMost (image_cost answer) (B.state b.old).holder.bytes_read (B.state b.new).holder.bytes_read) }

@@ -20,6 +20,8 @@
 
 mod area;
 mod bytes;
+mod carried;
+mod covered;
 mod hash;
 mod header;
 mod image;
@@ -28,6 +30,7 @@ mod lent;
 mod tlv;
 
 pub use bytes::Bytes;
+pub use carried::{Carried, Finished};
 pub use hash::check_hash;
 pub use image::read_image;
 pub use laws::{lent_bytes_are_read, looks_compose, looks_pass_faults_on};

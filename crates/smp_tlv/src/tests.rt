@@ -2,8 +2,10 @@
 //! by a reader of its own, from the layout of an image.
 
 ghost use Rattle.std.specs.Prelude.{◌≤◌, length, [], Some, None, refl};
+ghost use Rattle.smp_tlv.specs.Carried.{Carries};
 
 use super::*;
+use sha2::{Digest, Sha256};
 use smp_flash::FlashFault;
 use smp_model::{Version, make_image};
 use std::alloc::{AllocError, Global};
@@ -588,5 +590,179 @@ fn an_off_holder_answers_off(rt: HostRuntime) -> Result<(), Fail> {
     b.on = false;
     assert_eq!(rt; read_image(&mut b), Err(ImageFault::Off));
     assert_eq!(rt; (b.reads, b.asked), (0, 0));
+    Ok(())
+}
+
+/// The file of these bytes: first so many of them, then pieces of that size.
+fn carry(bytes: &[u8], first: usize, size: usize) -> Carried
+    ensures { Carries result bytes.now }
+{
+    let mut carried = Carried::new();
+    let mut at = first.min(bytes.len());
+    carried.add(&bytes[..at]);
+    while at < bytes.len() {
+        let end = at + size.max(1).min(bytes.len() - at);
+        carried.add(&bytes[at..end]);
+        at = end;
+    }
+    carried
+}
+
+/// What is known of the first 100000 of these bytes, however they came.
+fn finished(bytes: &[u8], first: usize, size: usize) -> Result<Finished, FlashFault> {
+    let bytes = &bytes[..bytes.len().min(100000)];
+    let carried = carry(bytes, first, size);
+    let mut b = Lent::new(bytes);
+    carried.finish(&mut b)
+}
+
+/// The SHA-256 of the default image.
+const FILE: [u8; 32] = [
+    0x02, 0x3d, 0xbd, 0x00, 0x74, 0x7b, 0xe6, 0x90, 0x46, 0x5d, 0x69, 0x7b, 0xba, 0xa8, 0x58, 0x4b,
+    0x5c, 0x16, 0x0e, 0x74, 0xb3, 0xea, 0x53, 0xeb, 0x19, 0x5e, 0x3b, 0xed, 0x40, 0x3c, 0x19, 0x9c,
+];
+
+#[test]
+fn the_default_image_is_carried_however_it_is_cut(rt: HostRuntime) -> Result<(), Fail> {
+    let bytes = default_image(rt.alloc())?;
+    let image = ImageInfo {
+        version: VERSION,
+        flags: 0,
+        covered: 40,
+        end: 80,
+        hash: HASH,
+    };
+    let wanted = Finished {
+        digest: FILE,
+        image: Some(image),
+    };
+    for first in 0..81 {
+        assert_eq!(rt;
+            finished(bytes.as_slice(), first, 80),
+            Ok(wanted),
+            "cut at {first}"
+        );
+        assert_eq!(rt;
+            finished(bytes.as_slice(), 0, first),
+            Ok(wanted),
+            "pieces of {first}"
+        );
+    }
+    Ok(())
+}
+
+/// An image of a header of 40 bytes, a payload of 100, a protected TLV, three TLVs, and nine bytes behind its end.
+fn image_of_all_parts(alloc: Global) -> Result<Vec<u8>, AllocError> {
+    let mut bytes = Vec::new(alloc);
+    bytes.extend_from_slice(&[
+        0x3d, 0xb8, 0xf3, 0x96, 0, 0, 0, 0, 40, 0, 12, 0, 100, 0, 0, 0,
+    ])?;
+    bytes.extend_from_slice(&[0, 0, 0, 0, 1, 0, 0, 0, 0, 0, 0, 0, 0, 0, 0, 0])?;
+    put_bytes(&mut bytes, 8, 0xee)?;
+    put_bytes(&mut bytes, 100, 0x5a)?;
+    bytes.extend_from_slice(&[8, 0x69, 12, 0, 0x50, 0, 4, 0, 1, 2, 3, 4])?;
+    bytes.extend_from_slice(&[7, 0x69, 56, 0])?;
+    put_tlv(&mut bytes, 1, 3)?;
+    bytes.extend_from_slice(&[0x10, 0, 32, 0])?;
+    bytes.extend_from_slice(&ALL_PARTS_HASH)?;
+    put_tlv(&mut bytes, 0x22, 5)?;
+    put_bytes(&mut bytes, 9, 0xff)?;
+    Ok(bytes)
+}
+
+/// The SHA-256 of its first 152 bytes.
+const ALL_PARTS_HASH: [u8; 32] = [
+    0xb4, 0xbb, 0xc4, 0x25, 0xb7, 0x39, 0x77, 0xd0, 0x42, 0x8d, 0x92, 0x02, 0x6b, 0x1b, 0x0d, 0xd5,
+    0x3c, 0x81, 0xdf, 0x1a, 0xa6, 0xee, 0x80, 0x20, 0x36, 0xa2, 0xd1, 0x91, 0xe3, 0x7c, 0x21, 0x13,
+];
+
+/// The SHA-256 of all its 217 bytes.
+const ALL_PARTS_FILE: [u8; 32] = [
+    0x90, 0xa9, 0xb5, 0xf9, 0xf4, 0xc8, 0x8e, 0x89, 0x88, 0x01, 0x93, 0x1e, 0x8f, 0x66, 0xe3, 0x4f,
+    0xb4, 0x2c, 0x12, 0x0a, 0x8c, 0xb0, 0x02, 0xa6, 0xab, 0x05, 0xa0, 0x51, 0x52, 0x8d, 0x01, 0xb2,
+];
+
+#[test]
+fn an_image_of_all_parts_is_carried_in_odd_pieces(rt: HostRuntime) -> Result<(), Fail> {
+    let bytes = image_of_all_parts(rt.alloc())?;
+    assert_eq!(rt; bytes.len(), 217);
+    let image = ImageInfo {
+        version: VERSION,
+        flags: 0,
+        covered: 152,
+        end: 208,
+        hash: ALL_PARTS_HASH,
+    };
+    let wanted = Finished {
+        digest: ALL_PARTS_FILE,
+        image: Some(image),
+    };
+    for size in [1, 3, 7, 31, 33, 63, 65, 151, 153, 216, 1000] {
+        for first in [0, 1, 29, 32, 47] {
+            assert_eq!(rt;
+                finished(bytes.as_slice(), first, size),
+                Ok(wanted),
+                "{first}, {size}"
+            );
+        }
+    }
+    Ok(())
+}
+
+/// A file that is no good image is carried as any other, and has no image.
+#[test]
+fn no_image_is_carried_of_changed_bytes(rt: HostRuntime) -> Result<(), Fail> {
+    let changes = [
+        Change::Cut(0),
+        Change::Cut(31),
+        Change::Cut(32),
+        Change::Cut(40),
+        Change::Cut(79),
+        Change::Byte(0, 0x3c),
+        Change::Byte(8, 31),
+        Change::Byte(16, 4),
+        Change::Byte(12, 45),
+        Change::Byte(12, 7),
+        Change::Byte(10, 4),
+        Change::Byte(44, 0x11),
+        Change::Byte(32, 0xff),
+        Change::Byte(79, 0x0c),
+    ];
+    for change in changes {
+        let mut bytes = default_image(rt.alloc())?;
+        apply(&mut bytes, change);
+        let wanted = Ok((Sha256::digest(bytes.as_slice()), None));
+        for size in [1, 32, 39, 41, 80] {
+            let found = finished(bytes.as_slice(), 0, size);
+            assert_eq!(rt;
+                found.map(|f| (f.digest, f.image)),
+                wanted,
+                "{change:?}, {size}"
+            );
+        }
+    }
+    Ok(())
+}
+
+/// Of a carried file the heads and the hash alone are read. A read that does not go through is passed on.
+#[test]
+fn a_carried_file_is_not_read_again(rt: HostRuntime) -> Result<(), Fail> {
+    let payload = vec![in rt.alloc(); 0x5a; 600]?;
+    let image = make_image(rt.alloc(), payload.as_slice(), VERSION)?;
+    let bytes = image.as_slice();
+    let bytes = &bytes[..bytes.len().min(100000)];
+    for (strikes, reads, asked, wanted) in [
+        (0, 4, 72, Ok(true)),
+        (4, 4, 72, Err(FlashFault::Fault)),
+    ] {
+        let mut b = Counted::new(bytes, strikes, FlashFault::Fault);
+        let carried = carry(b.bytes, 0, 77);
+        let found = carried.finish(&mut b);
+        match found {
+            Ok(finished) => assert_eq!(rt; Ok(finished.image.is_some()), wanted),
+            Err(fault) => assert_eq!(rt; Err(fault), wanted),
+        }
+        assert_eq!(rt; (b.reads, b.asked), (reads, asked));
+    }
     Ok(())
 }
