@@ -1,8 +1,10 @@
 // A flash file is written, taken up again, and refused where it is spoiled.
 use crate::{FileFlash, FileMedium, Flash, FlashFault, Geometry, Keeping, MemMedium};
+use std::alloc::Global;
 use std::fs;
 use std::fs::OpenOptions;
 use std::io::Write;
+use std::process::Abort;
 use std::test::Fail;
 
 const SIZES: Geometry = Geometry {
@@ -43,6 +45,21 @@ fn what_is_written_is_read_again(rt: HostRuntime) -> Result<(), Fail> {
     Ok(())
 }
 
+// A new flash of these sizes begins with this head, and is taken up again.
+fn is_headed(rt: &impl Abort, alloc: Global, sizes: Geometry, head: &[u8]) -> Result<(), Fail> {
+    assert!(rt; sizes.is_lawful());
+    let medium = MemMedium::new(alloc, sizes)?;
+    assert_eq!(rt; &medium.as_slice()[..32], head);
+    let mut flash = FileFlash::over(medium, Keeping::System).ok_or("no flash")?;
+    assert_eq!(rt; flash.geometry(), sizes);
+    assert_eq!(rt; flash.create("any", sizes), Ok(()));
+    assert_eq!(rt; flash.attach("any"), Ok(()));
+    let mut bytes = [0u8; 8];
+    assert_eq!(rt; flash.read(0, &mut bytes), Ok(()));
+    assert_eq!(rt; bytes, [0xff; 8]);
+    Ok(())
+}
+
 #[test]
 fn heads_are_written_as_they_are_said(rt: HostRuntime) -> Result<(), Fail> {
     let two = Geometry {
@@ -51,27 +68,18 @@ fn heads_are_written_as_they_are_said(rt: HostRuntime) -> Result<(), Fail> {
         slot_pages: 4,
         images: 2,
     };
-    for (sizes, want) in [
-        (
-            SIZES,
-            b"SMPFLASH\0\0\x02\0\0\0\0\x08\0\0\0\x04\0\0\0\0\0\0\0\0\0\0\0\0".as_slice(),
-        ),
-        (
-            two,
-            b"SMPFLASH\0\0\x10\0\0\0\0\x01\0\0\0\x04\0\0\0\x02\0\0\0\0\0\0\0\0".as_slice(),
-        ),
-    ] {
-        assert!(rt; sizes.is_lawful());
-        let medium = MemMedium::new(rt.alloc(), sizes)?;
-        assert_eq!(rt; &medium.as_slice()[..32], want);
-        let mut flash = FileFlash::over(medium, Keeping::System).ok_or("no flash")?;
-        assert_eq!(rt; flash.geometry(), sizes);
-        assert_eq!(rt; flash.create("any", sizes), Ok(()));
-        assert_eq!(rt; flash.attach("any"), Ok(()));
-        let mut bytes = [0u8; 8];
-        assert_eq!(rt; flash.read(0, &mut bytes), Ok(()));
-        assert_eq!(rt; bytes, [0xff; 8]);
-    }
+    is_headed(
+        &rt,
+        rt.alloc(),
+        SIZES,
+        b"SMPFLASH\0\0\x02\0\0\0\0\x08\0\0\0\x04\0\0\0\0\0\0\0\0\0\0\0\0",
+    )?;
+    is_headed(
+        &rt,
+        rt.alloc(),
+        two,
+        b"SMPFLASH\0\0\x10\0\0\0\0\x01\0\0\0\x04\0\0\0\x02\0\0\0\0\0\0\0\0",
+    )?;
     Ok(())
 }
 

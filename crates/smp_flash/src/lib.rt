@@ -1,4 +1,4 @@
-//! A flash: its sizes, its regions, what each of its calls does to its bytes, and two flashes in memory.
+//! A flash: its sizes, its regions, what each of its calls does to its bytes, two flashes in memory, and one in a file.
 //!
 //! ```text
 //! S = page size * pages of a slot

@@ -1,5 +1,6 @@
-//! A bank: a body kept on two sides, which is replaced as a whole. Whatever a torn write or erase leaves, the bank holds
-//! the old body or the new one.
+//! A bank: a body and a list of cells of one length, kept on two sides. The body is replaced as a whole, which leaves no
+//! cell, and a cell is appended at the end. Whatever a torn write or erase leaves, the bank holds the old content or the
+//! new one.
 //!
 //! A side, 4096 bytes:
 //!
@@ -9,12 +10,12 @@
 //!  13  length      2   of the body, 0 to 4080, seven bits a byte, the most significant first
 //!  15  01          1
 //!  16  body        0 to 4080 bytes, filled with 00 to a multiple of 8
-//!      cells       to the end; none is written yet
+//!      cells       as many as fit: each its bytes, filled with 00 to a multiple of 8, and a gate of 8 bytes
 //! ```
 //!
 //! A replacement erases the pages of the older side that aren't all FF, writes head and body in one write, and then the
-//! gate in a write of its own. The newest side is the valid one with the greater generation, the first one where they
-//! are equal.
+//! gate in a write of its own. A cell is written likewise, behind the last one that isn't all FF; one without its gate
+//! doesn't count. The newest side is the valid one with the greater generation, the first one where they are equal.
 #![tactic(auto)]
 
 mod bank;
