@@ -2,6 +2,5 @@ pub mod Carried
 pub mod Covered
 pub mod Faults
 pub mod Lent
-pub mod Part
 pub mod State
 pub mod Walking

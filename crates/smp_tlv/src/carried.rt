@@ -1,9 +1,10 @@
 // A file's digest and its image, carried along while its bytes come.
-ghost use Rattle.std.specs.Prelude.{⊤, ◌≡◌, ◌≢◌, ◌+◌, ◌<◌, ◌≤◌, ◌++◌, List, [], ℕ, length, take, None, IfOk, IfSome};
+ghost use Rattle.std.specs.Prelude.{⊤, ◌≡◌, ◌≢◌, ◌+◌, ◌<◌, ◌≤◌, ◌++◌, List, [], ℕ, length, take, false, None, IfOk, IfSome};
 ghost use Rattle.sha2.specs.Hashers.{Holds256};
 ghost use Rattle.sha2.specs.Sha256.{sha256};
 ghost use Rattle.smp_flash.specs.Calls.{ReadsAtMost};
 ghost use Rattle.smp_flash.specs.State.{end_of};
+ghost use Rattle.smp_flash.specs.State.End.{WentOff};
 ghost use Rattle.smp_flash.specs.declared.flash.Operation.TheVariants.{Read};
 ghost use Rattle.smp_model.specs.Image.{good_image, image_of};
 ghost use Rattle.smp_tlv.specs.Carried.{Carries, FitsIn, StandsAt};
@@ -191,6 +192,7 @@ impl Carried {
     pub fn finish<B: Bytes>(self, b: &mut B) -> Result<Finished, FlashFault>
         requires { IfSome (B.state b.old).bytes (Carries self) }
         ensures looks { Looks 131102 (end_of Read result) (B.state b.old) (B.state b.new) }
+        ensures off { (B.state b.old).holder.on ≡ false → 32 ≤ (B.state b.old).size → end_of Read result ≡ WentOff }
         ensures digest { IfOk result (λ finished. (added : List ℕ) → Carries self added → finished.digest ≡ sha256 added) }
         ensures hash { IfOk result (λ finished. IfSome finished.image (λ info. (added : List ℕ) → Carries self added → info.hash ≡ sha256 (take info.covered added))) }
         ensures cost { IfOk result (λ finished. IfSome finished.image (λ info. ReadsAtMost info.end (B.state b.old).holder.bytes_read (B.state b.new).holder.bytes_read)) }

@@ -1,6 +1,7 @@
 // The header of an image.
-ghost use Rattle.std.specs.Prelude.{◌≡◌, ◌+◌, ◌^◌, ◌<◌, ◌≤◌, List, ℕ, length, take, IfOk, IfErr, IfSome, OnOk};
+ghost use Rattle.std.specs.Prelude.{◌≡◌, ◌+◌, ◌^◌, ◌<◌, ◌≤◌, List, ℕ, length, take, false, IfOk, IfErr, IfSome, OnOk};
 ghost use Rattle.smp_flash.specs.State.{end_of};
+ghost use Rattle.smp_flash.specs.State.End.{WentOff};
 ghost use Rattle.smp_flash.specs.declared.flash.Operation.TheVariants.{Read};
 ghost use Rattle.smp_model.specs.Image.{header_of, covered_of, with_header, with_areas};
 ghost use Rattle.smp_tlv.specs.Covered.{header_covers};
@@ -45,6 +46,7 @@ pub fn header_from(bytes: &[u8; 32]) -> ImageHeader
 pub fn read_header<B: Bytes>(b: &mut B) -> Result<ImageHeader, FlashFault>
     requires { 32 ≤ (B.state b.old).size }
     ensures looks { Looks 32 (end_of Read result) (B.state b.old) (B.state b.new) }
+    ensures off { (B.state b.old).holder.on ≡ false → end_of Read result ≡ WentOff }
     ensures header { IfOk result (λ header. IfSome (B.state b.old).bytes (λ held. header ≡ header_of (take 32 held))) }
 {
     let mut bytes = [0; 32];

@@ -1,8 +1,8 @@
 // An image from its bytes.
-ghost use Rattle.std.specs.Prelude.{◌≡◌, IfOk, IfErr, IfSome};
+ghost use Rattle.std.specs.Prelude.{◌≡◌, ◌≤◌, false, IfOk, IfErr, IfSome};
 ghost use Rattle.smp_flash.specs.Calls.{ReadsAtMost};
 ghost use Rattle.smp_flash.specs.State.{end_of};
-ghost use Rattle.smp_flash.specs.State.End.{Went};
+ghost use Rattle.smp_flash.specs.State.End.{Went, WentOff};
 ghost use Rattle.smp_flash.specs.declared.flash.Operation.TheVariants.{Read};
 ghost use Rattle.smp_model.specs.Image.{image_of};
 ghost use Rattle.smp_tlv.specs.Faults.{IsOfBytes, IsOfReading, image_fault};
@@ -17,6 +17,7 @@ use smp_model::{ImageFault, ImageInfo};
 /// The image, or the first fault of its bytes.
 pub fn find_image<B: Bytes>(b: &mut B) -> Result<Result<ImageInfo, ImageFault>, FlashFault>
     ensures looks { Looks 131102 (end_of Read result) (B.state b.old) (B.state b.new) }
+    ensures off { (B.state b.old).holder.on ≡ false → 32 ≤ (B.state b.old).size → end_of Read result ≡ WentOff }
     ensures answer { IfOk result (λ answer. IfSome (B.state b.old).bytes (λ held. answer ≡ image_of held)) }
     ensures cost { IfOk result (λ answer. ReadsAtMost (image_cost answer) (B.state b.old).holder.bytes_read (B.state b.new).holder.bytes_read) }
     ensures kind { IfOk result (λ answer. IfErr answer IsOfBytes) }
@@ -52,10 +53,11 @@ pub fn passed_on(fault: FlashFault) -> ImageFault
 ///
 /// A fault is the first one of the bytes, in the order of `ImageFault`, and nothing is read after what shows it. The hash
 /// is not checked: `WrongHash` and `TooLarge` never come. `Fault` and `Off` come as the holder of the bytes gives them,
-/// and nothing is read after them. At most 131102 bytes are read: a header and two areas of TLVs.
+/// `Off` always where it was off and there is a header to read, and nothing is read after them. At most 131102 bytes are read: a header and two areas of TLVs.
 pub fn read_image<B: Bytes>(b: &mut B) -> Result<ImageInfo, ImageFault>
     ensures looks { Looks 131102 (image_end result) (B.state b.old) (B.state b.new) }
     ensures cost { ReadsAtMost (image_cost result) (B.state b.old).holder.bytes_read (B.state b.new).holder.bytes_read }
+    ensures off { (B.state b.old).holder.on ≡ false → 32 ≤ (B.state b.old).size → image_end result ≡ WentOff }
     ensures image { image_end result ≡ Went → IfSome (B.state b.old).bytes (λ held. result ≡ image_of held) }
     ensures kind { IfErr result IsOfReading }
     ensures inside { IfOk result (IsInside (B.state b.old).size) }

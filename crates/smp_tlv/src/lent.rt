@@ -1,8 +1,8 @@
 // Bytes that are lent.
-ghost use Rattle.std.specs.Prelude.{◌≡◌, ◌+◌, ◌≤◌, length, OnOk, IfSome};
-ghost use Rattle.smp_flash.specs.Area.{area};
+ghost use Rattle.std.specs.Prelude.{◌≡◌, ◌+◌, ◌<◌, ◌≤◌, length, false, OnOk, IfSome};
+ghost use Rattle.smp_flash.specs.Area.{AreBytes, area};
 ghost use Rattle.smp_flash.specs.State.{end_of};
-ghost use Rattle.smp_flash.specs.State.End.{Went};
+ghost use Rattle.smp_flash.specs.State.End.{Went, WentOff};
 ghost use Rattle.smp_flash.specs.declared.flash.Operation.TheVariants.{Read};
 ghost use Rattle.smp_tlv.specs.State.{Looks};
 
@@ -14,6 +14,7 @@ use smp_flash::FlashFault;
 pub struct Lent<'a> {
     bytes: &'a [u8],
     ghost fits: { length bytes.now ≤ 4294967295 },
+    ghost are_bytes: { AreBytes bytes.now },
 }
 
 impl<'a> Lent<'a> {
@@ -42,6 +43,7 @@ impl Bytes for Lent<'_> {
         requires { at + length into.old ≤ (lent_state self.old).size }
         ensures looks { Looks (length into.old) (end_of Read result) (lent_state self.old) (lent_state self.new) }
         ensures bytes { OnOk result (IfSome (lent_state self.old).bytes (λ held. into.new ≡ area at (length into.old) held)) }
+        ensures off { (lent_state self.old).holder.on ≡ false → 0 < length into.old → end_of Read result ≡ WentOff }
         ensures end { end_of Read result ≡ Went }
         ensures same { self.new ≡ self.old }
     {
@@ -51,4 +53,6 @@ impl Bytes for Lent<'_> {
     }
 
     ghost sized = { λ b. refl };
+
+    ghost bytes = { λ b. b.are_bytes };
 }

@@ -4,7 +4,7 @@ ghost use Rattle.std.specs.Prelude.{◌+◌, ◌≤◌, ◌∷◌, []};
 ghost use Rattle.std.specs.Option.{option_map, unwrap_or};
 ghost use Rattle.smp_flash.specs.Area.{area};
 ghost use Rattle.smp_flash.specs.Geometry.{size_of};
-ghost use Rattle.smp_tlv.specs.Part.{part_sized};
+ghost use Rattle.smp_tlv.proofs.Parts.{part_sized, part_bytes};
 
 use crate::bytes::Bytes;
 use crate::{ImageFault, ImageInfo, check_hash, read_image};
@@ -43,6 +43,8 @@ impl<F: Flash> Bytes for Part<'_, F> {
     }
 
     ghost sized = { λ p. part_sized p.at p.size (size_of (F.state p.flash.now).geometry) (F.state p.flash.now).bytes p.inside (F.sized p.flash.now) };
+
+    ghost bytes = { λ p. part_bytes p.at p.size (F.state p.flash.now).bytes (F.bytes p.flash.now) };
 }
 
 /// Reads the image in a part of a flash.

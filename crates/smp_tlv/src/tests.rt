@@ -2,6 +2,7 @@
 //! by a reader of its own, from the layout of an image.
 
 ghost use Rattle.std.specs.Prelude.{◌≤◌, length, [], Some, None, refl};
+ghost use Rattle.smp_flash.specs.Area.{AreBytes};
 ghost use Rattle.smp_tlv.specs.Carried.{Carries};
 
 use super::*;
@@ -26,6 +27,7 @@ struct Counted<'a> {
     strikes: u32,
     ends: FlashFault,
     ghost fits: { length bytes.now ≤ 4294967295 },
+    ghost are_bytes: { AreBytes bytes.now },
 }
 
 impl<'a> Counted<'a> {
@@ -87,6 +89,8 @@ impl Bytes for Counted<'_> {
     }
 
     ghost sized = { λ c. refl };
+
+    ghost bytes = { λ c. c.are_bytes };
 }
 
 /// What is known of the image, if it is a good one.
