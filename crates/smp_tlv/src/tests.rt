@@ -735,12 +735,15 @@ fn no_image_is_carried_of_changed_bytes(rt: HostRuntime) -> Result<(), Fail> {
     for change in changes {
         let mut bytes = default_image(rt.alloc())?;
         apply(&mut bytes, change);
-        let wanted = Ok((Sha256::digest(bytes.as_slice()), None));
+        let digest = Sha256::digest(bytes.as_slice());
+        let wanted = Finished {
+            digest,
+            image: None,
+        };
         for size in [1, 32, 39, 41, 80] {
-            let found = finished(bytes.as_slice(), 0, size);
             assert_eq!(rt;
-                found.map(|f| (f.digest, f.image)),
-                wanted,
+                finished(bytes.as_slice(), 0, size),
+                Ok(wanted),
                 "{change:?}, {size}"
             );
         }
