@@ -1,5 +1,5 @@
 -- Bytes that are added piece by piece, and what was kept of them.
-use Rattle.std.proofs.Common.{◌≡◌, ◌≢◌, ℕ, ◌+◌, ◌-◌, ◌≤◌, ◌<◌, ◌==◌, Bool, true, false, List, ◌++◌, length, length-append, take, drop, Option, Some, None, Result, Ok, Err, refl, sym, ap, ◌∙◌, subst, arith}
+use Rattle.std.proofs.Common.{◌≡◌, ◌≢◌, ℕ, ◌+◌, ◌-◌, ◌≤◌, ◌==◌, Bool, true, false, List, ◌++◌, length, length-append, take, drop, Option, Some, None, Result, Ok, Err, refl, sym, ap, ◌∙◌, subst, arith}
 use Rattle.std.specs.Prelude.{nat_le, filter, bit_and, IfSome}
 use Rattle.std.proofs.lemmas.List.{take_all, take-append-le, append_assoc}
 use Rattle.std.proofs.Math.Seq.{take-add}
@@ -8,8 +8,8 @@ use Rattle.smp_model.specs.declared.image.ImageHeader.{ImageHeader}
 use Rattle.smp_model.specs.declared.image.ImageInfo.{ImageInfo}
 use Rattle.smp_model.specs.declared.image.ImageFault.{ImageFault}
 use Rattle.smp_model.specs.declared.image.ImageFault.TheVariants.{Short, Magic, HeaderSize, Encrypted, Bounds, Protected}
-use Rattle.smp_model.specs.Image.{Tlv, image_of, good_image, if_hashed, header_of, with_header, with_areas, with_tlvs, hashed, info_of, only_hash, is_hash, area_of, tlv_magic, has_protected, covered_of, image_magic, encrypted_flags, test, number_16}
-use Rattle.smp_tlv.specs.Covered.{header_covers, with_bounds, covered_in}
+use Rattle.smp_model.specs.Image.{Tlv, image_of, good_image, if_hashed, header_of, with_header, hashed, info_of, only_hash, is_hash, area_of, tlv_magic, has_protected, covered_of, image_magic, encrypted_flags, test}
+use Rattle.smp_tlv.specs.Covered.{header_covers, covered_in}
 use Rattle.smp_tlv.specs.Carried.{StandsAt}
 use Rattle.smp_tlv.specs.declared.covered.Covered.{Covered}
 use Rattle.smp_tlv.specs.declared.covered.Kept.{Kept}

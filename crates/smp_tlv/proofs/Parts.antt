@@ -1,9 +1,9 @@
 -- A part of a flash as bytes.
-use Rattle.std.proofs.Common.{◌≡◌, ℕ, zero, suc, ◌+◌, ◌<◌, ◌≤◌, List, [], ◌∷◌, length, take, drop, Option, Some, None, Bool, true, false, refl, ◌∙◌, sym, ap, subst, arith}
+use Rattle.std.proofs.Common.{◌≡◌, ◌==◌, ℕ, zero, suc, ◌+◌, ◌<◌, ◌≤◌, List, [], ◌∷◌, length, take, drop, Option, Some, None, true, false, refl, ◌∙◌, sym, ap, subst, arith}
 use Rattle.std.specs.Prelude.{IfSome}
 use Rattle.std.specs.Option.{option_map, unwrap_or}
 use Rattle.smp_flash.specs.Area.{AreBytes, area, spot, Keeps}
-use Rattle.smp_flash.specs.Calls.{Reads, Passes, Spends, Goes}
+use Rattle.smp_flash.specs.Calls.{Reads, Passes, Spends}
 use Rattle.smp_flash.specs.State.{FlashState, End}
 use Rattle.smp_flash.specs.State.End.{Went, WentOff, Failed}
 use Rattle.smp_flash.specs.declared.flash.Operation.TheVariants.{Read}
@@ -59,6 +59,10 @@ nothing_spent None None s = refl
 nothing_spent None (Some q) s = absurd s
 nothing_spent (Some p) None s = absurd s
 nothing_spent (Some p) (Some q) s = ap (λ (n : ℕ). Some n) s
+
+pub not_empty : (n : ℕ) → (n == 0) ≡ false → 0 < n
+not_empty zero e = absurd (let bad : true ≡ false = e in cc)
+not_empty (suc n) e = omega arith
 
 -- a read of the flash within the part is a look at the part
 pub part_looks : (at size p n : ℕ) (end : End) (a b : FlashState) → 0 < n → p + n ≤ size → Reads (at + p) n end a b → b.bytes ≡ a.bytes → Looks n end (part_of at size a) (part_of at size b)

@@ -1,10 +1,10 @@
 //! A part of a flash as bytes, as a slot is one: that a flash meets what `Bytes` asks.
 
-ghost use Rattle.std.specs.Prelude.{◌+◌, ◌≤◌, ◌∷◌, []};
+ghost use Rattle.std.specs.Prelude.{◌≡◌, ◌+◌, ◌≤◌, ◌∷◌, [], length, IfSome};
+ghost use Rattle.std.proofs.Props.{props};
 ghost use Rattle.std.specs.Option.{option_map, unwrap_or};
-ghost use Rattle.smp_flash.specs.Area.{area};
+ghost use Rattle.smp_flash.specs.Area.{AreBytes, area};
 ghost use Rattle.smp_flash.specs.Geometry.{size_of};
-ghost use Rattle.smp_tlv.proofs.Parts.{part_sized, part_bytes};
 
 use crate::bytes::Bytes;
 use crate::{ImageFault, ImageInfo, check_hash, read_image};
@@ -20,6 +20,8 @@ struct Part<'a, F: Flash> {
     at: u32,
     size: u32,
     ghost inside: { at + size ≤ size_of (F.state flash.now).geometry },
+    ghost sized: { IfSome (option_map (area at size) (F.state flash.now).bytes) (λ held. length held ≡ size) } by { Prim.hlevel props },
+    ghost are_bytes: { IfSome (option_map (area at size) (F.state flash.now).bytes) AreBytes } by { Prim.hlevel props },
 }
 
 impl<F: Flash> Bytes for Part<'_, F> {
@@ -42,9 +44,9 @@ impl<F: Flash> Bytes for Part<'_, F> {
         self.flash.read(self.at + at, into)
     }
 
-    ghost sized = { λ p. part_sized p.at p.size (size_of (F.state p.flash.now).geometry) (F.state p.flash.now).bytes p.inside (F.sized p.flash.now) };
+    ghost sized = { λ p. p.sized };
 
-    ghost bytes = { λ p. part_bytes p.at p.size (F.state p.flash.now).bytes (F.bytes p.flash.now) };
+    ghost bytes = { λ p. p.are_bytes };
 }
 
 /// Reads the image in a part of a flash.

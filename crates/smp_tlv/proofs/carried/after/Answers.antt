@@ -1,4 +1,4 @@
-use Rattle.std.proofs.Common.{◌++◌, arith, length, length-append, ◌+◌, ◌-◌, ◌≡◌}
+use Rattle.std.proofs.Common.{◌++◌, arith, length-append}
 use Rattle.smp_tlv.proofs.Carrying.{awaited_more, kept_more, nothing_more}
 use Rattle.smp_tlv.proofs.carried.after.Goals as goal
 

@@ -1,5 +1,4 @@
-use Rattle.std.proofs.Common.{◌≡◌, ◌++◌, ◌+◌, ◌-◌, List, ℕ, take, drop, arith, subst, sym, ap, ◌∙◌}
-use Rattle.std.proofs.lemmas.List.{append_assoc}
+use Rattle.std.proofs.Common.{◌++◌, take, arith, subst}
 use Rattle.smp_tlv.specs.Carried.{Carries}
 use Rattle.smp_tlv.proofs.Carrying.{piece_more}
 use Rattle.smp_tlv.proofs.carried.Carried.add.Goals as goal
