@@ -39,14 +39,10 @@ fn is_error(reply: &Reply<'_>) -> bool
 /// Puts the reply to these bytes into `out`, in place of what that held, and answers whether there is one. There is none
 /// where the bytes are no packet, or a packet that is no request, and `out` is empty then. It counts what it did.
 pub fn handle(counts: &mut Counts, out: &mut PacketBuffer, bytes: &[u8]) -> bool
-    ensures reply {
-        let was = handled (counters_of counts.old) bytes.now in
-        MatchBool result (was.reply ≡ Some out.new.items) (was.reply ≡ None)
-    }
+    ensures reply { let was = handled (counters_of counts.old) bytes.now in
+        MatchBool result (was.reply ≡ Some out.new.items) (was.reply ≡ None) }
     ensures dropped { result ≡ false → out.new.items ≡ [] }
-    ensures counts {
-        counters_of counts.new ≡ (handled (counters_of counts.old) bytes.now).counters
-    }
+    ensures counts { counters_of counts.new ≡ (handled (counters_of counts.old) bytes.now).counters }
 {
     out.clear();
     match read_packet(bytes) {
