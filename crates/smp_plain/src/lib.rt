@@ -21,8 +21,3 @@ pub use laws::consistent_devices_are_sound;
 pub use requests::{is_sound, response_to};
 pub use response::{PlainChange, PlainResponse, PlainSideStep, PlainStep};
 pub use settings::{are_storable, stored_form};
-
-#[cfg(test)]
-mod conversations;
-#[cfg(test)]
-mod tests;
