@@ -1,5 +1,5 @@
 -- The cells of a side: where they stand behind the body, and which of them count.
-use Rattle.std.specs.Prelude.{◌≡◌, ◌≢◌, ◌⊎◌, ◌+◌, ◌-◌, ◌*◌, ◌/◌, ◌<◌, ◌≤◌, ℕ, zero, suc, Bool, true, false, List, [], ◌∷◌, ◌++◌, length, Option, Some, None}
+use Rattle.std.specs.Prelude.{◌≡◌, ◌≢◌, ◌⊎◌, ◌+◌, ◌-◌, ◌*◌, ◌/◌, ◌<◌, ◌≤◌, ℕ, zero, suc, Bool, true, false, List, [], ◌∷◌, ◌++◌, length, replicate, Option, Some, None}
 use Rattle.std.specs.Str.{bytes_eq}
 use Rattle.smp_flash.specs.Area.{area, blank}
 use Rattle.smp_flash.specs.Region.{gate}
@@ -12,6 +12,10 @@ filled n = n + padding n
 -- the bytes that a cell takes: its own, filled, and a gate
 abbrev pub span : ℕ → ℕ
 span cell = filled cell + 8
+
+-- the bytes of a cell as they are laid: its own, filled with zeros
+abbrev pub filled_cell : List ℕ → List ℕ
+filled_cell cell = cell ++ replicate (padding (length cell)) 0
 
 -- where the cells of a side begin, behind a body of this length
 abbrev pub cells_at : ℕ → ℕ

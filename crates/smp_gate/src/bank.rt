@@ -6,7 +6,7 @@ ghost use Rattle.smp_flash.specs.Geometry.{size_of};
 ghost use Rattle.smp_flash.specs.Layout.{CountsInBank};
 ghost use Rattle.smp_flash.specs.State.{ended};
 ghost use Rattle.smp_gate.specs.Bank.{BankState, BankSays, current, other, next_cell};
-ghost use Rattle.smp_gate.specs.Cells.{span, places, standing, place_of, gate_reads};
+ghost use Rattle.smp_gate.specs.Cells.{filled, filled_cell, span, places, standing, place_of, gate_reads};
 ghost use Rattle.smp_gate.specs.Fault.{bank_end, after_replace, after_append};
 ghost use Rattle.smp_gate.specs.Newest.{Fits, Fresh, sides, newest_side, content_of, just, HasBody, HasCell, newest_generation, AgesAtMost, OldOrNew, SameOrThis, Added, SameOrAdded, SameNewest, IsFull, SameSide};
 ghost use Rattle.smp_gate.specs.Side.{whole_side};
@@ -275,6 +275,7 @@ impl Bank {
         ensures ages { Told (AgesAtMost 0 self.old.place) (F.state flash.old).bytes (F.state flash.new).bytes }
         ensures bank { self.new ≡ after_append result self.old }
         ensures says { OnOk result (IfSome (F.state flash.new).bytes (BankSays self.new)) }
+        ensures laid { OnOk result (IfSome (F.state flash.new).bytes (λ held. area (next_cell self.old) (filled self.old.cell) held ≡ filled_cell cell.now)) }
         ensures added { OnOk result (Told (Added self.old.place self.old.cell cell.now) (F.state flash.old).bytes (F.state flash.new).bytes) }
 
         // Exactly where no cell of the newest side is free.

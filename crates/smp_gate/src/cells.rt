@@ -5,7 +5,7 @@ ghost use Rattle.smp_flash.specs.Calls.{Calls, ReadsAtMost, ChangesAtMost, Small
 ghost use Rattle.smp_flash.specs.Geometry.{size_of, Regular};
 ghost use Rattle.smp_flash.specs.Region.{gate, counts_write};
 ghost use Rattle.smp_flash.specs.State.{ended};
-ghost use Rattle.smp_gate.specs.Cells.{filled, span, cells_at, places, gates_from, gate_reads, Used};
+ghost use Rattle.smp_gate.specs.Cells.{filled, filled_cell, span, cells_at, places, gates_from, gate_reads, Used};
 
 use arrayvec::ArrayVec;
 use smp_flash::{CallFault, Flash, GATE, read_part, reads_erased, write_part};
@@ -82,6 +82,7 @@ fn write_with_zeros<F: Flash>(flash: &mut F, at: u32, cell: &[u8]) -> Result<(),
     ensures reads { ReadsAtMost 0 (F.state flash.old).bytes_read (F.state flash.new).bytes_read }
     ensures changes { ChangesAtMost 1 0 (F.state flash.old).changes (F.state flash.new).changes }
     ensures stands { OnOk result (IfSome (F.state flash.new).bytes (λ held. area at (length cell.now) held ≡ cell.now)) }
+    ensures laid { OnOk result (IfSome (F.state flash.new).bytes (λ held. area at (filled (length cell.now)) held ≡ filled_cell cell.now)) }
 {
     let mut buffer = [0u8; 4080];
     let size = filled(cell.len() as u32) as usize;
@@ -102,6 +103,7 @@ fn write_cell<F: Flash>(flash: &mut F, at: u32, cell: &[u8]) -> Result<(), CallF
     ensures reads { ReadsAtMost 0 (F.state flash.old).bytes_read (F.state flash.new).bytes_read }
     ensures changes { ChangesAtMost 1 0 (F.state flash.old).changes (F.state flash.new).changes }
     ensures stands { OnOk result (IfSome (F.state flash.new).bytes (λ held. area at (length cell.now) held ≡ cell.now)) }
+    ensures laid { OnOk result (IfSome (F.state flash.new).bytes (λ held. area at (filled (length cell.now)) held ≡ filled_cell cell.now)) }
 {
     if cell.len() % 8 != 0 {
         return write_with_zeros(flash, at, cell);
@@ -122,6 +124,7 @@ pub fn add_cell<F: Flash>(flash: &mut F, at: u32, cell: &[u8]) -> Result<(), Cal
     ensures changes { ChangesAtMost 2 0 (F.state flash.old).changes (F.state flash.new).changes }
     ensures whole { IfSome (F.state flash.new).bytes (λ held. area (at + filled (length cell.now)) 8 held ≡ gate → area at (length cell.now) held ≡ cell.now) }
     ensures stands { OnOk result (IfSome (F.state flash.new).bytes (λ held. area (at + filled (length cell.now)) 8 held ≡ gate)) }
+    ensures laid { OnOk result (IfSome (F.state flash.new).bytes (λ held. area at (filled (length cell.now)) held ≡ filled_cell cell.now)) }
     ensures pays { OnOk result (counts_write (F.state flash.old).geometry (F.state flash.old).aim (at + filled (length cell.now)) gate ≡ true
         → Smaller (F.state flash.old).patience (F.state flash.new).patience) }
 {
