@@ -1,14 +1,15 @@
 -- What may come of a packet where the flash fails at its request, or a record is worn: the reply is that error, in the group
 -- of the request. Of the steps of the request some front was done. The reply is counted as an error.
-use Rattle.std.specs.Prelude.{◌≡◌, ℕ, List, Bool, ◌==◌, ◌&&◌, ◌||◌, Some, Ok, IsTrue}
+use Rattle.std.specs.Prelude.{◌≡◌, ℕ, List, Bool, true, ◌==◌, ◌&&◌, ◌||◌, Some, Ok, IsTrue}
 use Rattle.smp_header.specs.Message.{Message, packet}
 use Rattle.smp_model.specs.declared.device.AbstractDevice.{AbstractDevice}
 use Rattle.smp_model.specs.declared.device.Sizes.{Sizes}
 use Rattle.smp_model.specs.declared.error.TheConstants.{READ_FAILED, WRITE_FAILED, ERASE_FAILED, RECORD_WORN, SETTINGS_WORN}
 use Rattle.smp_model.specs.Does.{does}
-use Rattle.smp_model.specs.FlashUse.{uses_images, uses_saved}
+use Rattle.smp_model.specs.FlashUse.{uses_images}
 use Rattle.smp_model.specs.Handled.{Handled}
 use Rattle.smp_model.specs.Meaning.{meaning}
+use Rattle.smp_model.specs.Meant as meant
 use Rattle.smp_model.specs.Meant.{Meant, name_of}
 use Rattle.smp_model.specs.Said.{Said, group_error, reply_bytes}
 use Rattle.smp_model.specs.Steps.{Part, counted}
@@ -18,11 +19,17 @@ use Rattle.smp_model.specs.Table.{table}
 abbrev pub is_failure : (number : ℕ) → Bool
 is_failure number = (number == READ_FAILED) || ((number == WRITE_FAILED) || (number == ERASE_FAILED))
 
--- the errors by which a request reports a fault of the flash or a worn record; only requests that come to the flash do
+-- The errors by which a request reports a fault of the flash or a worn record: only requests that come to the flash do. A load
+-- only reads.
 abbrev pub reports_fault : Sizes → AbstractDevice → Meant → (number : ℕ) → Bool
-reports_fault sizes d m number =
-    (uses_images sizes d m && (is_failure number || (number == RECORD_WORN)))
-    || (uses_saved m && (is_failure number || (number == SETTINGS_WORN)))
+reports_fault sizes d meant.load number = number == READ_FAILED
+reports_fault sizes d meant.save number = is_failure number || (number == SETTINGS_WORN)
+reports_fault sizes d m number = uses_images sizes d m && (is_failure number || (number == RECORD_WORN))
+
+-- such an error that is found before any step is done: whatever breaks off a load, and a worn bank of settings
+abbrev pub is_found_first : Meant → (number : ℕ) → Bool
+is_found_first meant.load number = true
+is_found_first m number = number == SETTINGS_WORN
 
 -- the group of a request
 abbrev pub group_of : Meant → ℕ
@@ -37,6 +44,7 @@ pub record IsBrokenOff (sizes : Sizes) (d : AbstractDevice) (m : Meant) (number 
   pub fault : IsTrue (reports_fault sizes d m number)
   pub reached : AbstractDevice
   pub part : Part d (does sizes d m).steps reached
+  pub unchanged : IsTrue (is_found_first m number) → reached ≡ d
   pub device : e ≡ counted (fault_reply m number) reached
 
 -- what may come of the bytes of a packet at which the flash fails or a record is worn
