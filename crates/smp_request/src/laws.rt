@@ -3,7 +3,7 @@
 ghost use Rattle.std.specs.Prelude.{◌≡◌, ℕ, ◌+◌, ◌^◌, ◌<◌, ◌≤◌, Some, Ok, length, option_map};
 ghost use Rattle.smp_header.specs.Message.{packet};
 ghost use Rattle.smp_model.specs.Table.{number as number_field, words, bytes as bytes_field};
-ghost use Rattle.smp_model.specs.Meant.{meant_of, fields_of, upload};
+ghost use Rattle.smp_model.specs.Meant.{meant_of, fields_of, upload, file_write, file_hash};
 ghost use Rattle.smp_model.specs.Meaning.{meaning};
 ghost use Rattle.smp_model.specs.Written.{request_message, request_bytes};
 ghost use Rattle.smp_request.specs.Held.{CanHold, CanHoldEach};
@@ -72,23 +72,13 @@ fn held(request: &Request<'_>)
             off,
             len,
             bytes,
-        } => {
-            texts_are_utf8(name);
-            let _off = *off;
-            held_number(*len);
-            bytes_are_counted(bytes);
-        }
+        } => held_file_part(name, *off, *len, bytes),
         Request::FileHash {
             name,
             kind,
             off,
             len,
-        } => {
-            texts_are_utf8(name);
-            held_text(*kind);
-            let _off = *off;
-            held_number(*len);
-        }
+        } => held_file_hash(name, *kind, *off, *len),
         _ => {}
     }
 }
@@ -126,4 +116,23 @@ fn held_upload(part: &UploadPart<'_>)
     let _off = part.off;
     held_bytes(part.sha);
     bytes_are_counted(part.bytes);
+}
+
+fn held_file_part(name: &str, off: u32, len: Option<u32>, bytes: &[u8])
+    ensures { CanHoldEach (fields_of (file_write off bytes.now len name.now)) }
+{
+    texts_are_utf8(name);
+    let _off = off;
+    held_number(len);
+    bytes_are_counted(bytes);
+}
+
+fn held_file_hash(name: &str, kind: Option<&str>, off: u32, len: Option<u32>)
+    ensures { CanHoldEach
+        (fields_of (file_hash name.now (option_map (λ k. k.now) kind.entry) off len)) }
+{
+    texts_are_utf8(name);
+    held_text(kind);
+    let _off = off;
+    held_number(len);
 }

@@ -2,4 +2,5 @@ pub mod Walks
 pub mod Images
 pub mod Hashing
 pub mod Parts
+pub mod ReadsCounted
 pub mod Carrying

@@ -5,6 +5,7 @@ ghost use Rattle.smp_flash.specs.State.{end_of};
 ghost use Rattle.smp_flash.specs.declared.flash.Operation.TheVariants.{Read};
 ghost use Rattle.smp_model.specs.Image.{covered_of, has_protected as is_protected, with_tlvs};
 ghost use Rattle.smp_tlv.specs.Faults.{IsOfTlvs};
+ghost use Rattle.smp_tlv.specs.Reads.{other_reads, protected_reads};
 ghost use Rattle.smp_tlv.specs.State.{Looks};
 ghost use Rattle.smp_tlv.specs.Walking.{info_by};
 
@@ -28,6 +29,7 @@ pub fn has_protected<B: Bytes>(
     requires covered { covered ≡ covered_of header.now }
     requires inside { covered + 4 ≤ (B.state b.old).size }
     ensures looks { Looks header.now.protected_size (end_of Read result) (B.state b.old) (B.state b.new) }
+    ensures reads { IfSome (B.state b.old).bytes (λ held. ReadsAtMost (protected_reads header.now held) (B.state b.old).holder.bytes_read (B.state b.new).holder.bytes_read) }
     ensures there { IfOk result (λ there. IfSome (B.state b.old).bytes (λ held. there ≡ is_protected header.now.protected_size (drop (header.now.header_size + header.now.image_size) held))) }
 {
     let size = u32::from(header.protected_size);
@@ -83,6 +85,7 @@ pub fn read_tlvs<B: Bytes>(
     requires covered { covered ≡ covered_of header.now }
     requires inside { covered + 4 ≤ (B.state b.old).size }
     ensures looks { Looks 65535 (end_of Read result) (B.state b.old) (B.state b.new) }
+    ensures reads { IfSome (B.state b.old).bytes (λ held. ReadsAtMost (other_reads covered held) (B.state b.old).holder.bytes_read (B.state b.new).holder.bytes_read) }
     ensures answer { IfOk result (λ answer. IfSome (B.state b.old).bytes (λ held. answer ≡ with_tlvs header.now (drop covered held))) }
     ensures kind { IfOk result (λ answer. IfErr answer IsOfTlvs) }
     ensures cost { IfOk result (λ answer. IfOk answer (λ info. ReadsAtMost (info.end - covered) (B.state b.old).holder.bytes_read (B.state b.new).holder.bytes_read)) }

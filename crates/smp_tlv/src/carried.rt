@@ -9,6 +9,7 @@ ghost use Rattle.smp_flash.specs.declared.flash.Operation.TheVariants.{Read};
 ghost use Rattle.smp_model.specs.Image.{good_image, image_of};
 ghost use Rattle.smp_tlv.specs.Carried.{Carries, FitsIn, StandsAt};
 ghost use Rattle.smp_tlv.specs.Covered.{covered_in};
+ghost use Rattle.smp_tlv.specs.Reads.{image_reads};
 ghost use Rattle.smp_tlv.specs.State.{Looks, IsInside};
 ghost use Rattle.smp_tlv.specs.declared.covered.Covered.TheVariants.{Header};
 
@@ -132,9 +133,12 @@ fn hashed(covered: &Covered, found: &Result<ImageInfo, ImageFault>) -> Option<Im
     ensures hash { IfSome result (λ info. (added : List ℕ) → StandsAt covered.now added → info.hash ≡ sha256 (take info.covered added)) }
     ensures image { (added : List ℕ) → StandsAt covered.now added → found.now ≡ image_of added → result ≡ good_image added }
 {
-    match (covered, found) {
-        (Covered::Kept(kept), Ok(info)) => agreed(kept, info),
-        _ => None,
+    let Covered::Kept(kept) = covered else {
+        return None;
+    };
+    match found {
+        Ok(info) => agreed(kept, info),
+        Err(_) => None,
     }
 }
 
@@ -193,6 +197,7 @@ impl Carried {
         requires { IfSome (B.state b.old).bytes (Carries self) }
         ensures looks { Looks 131102 (end_of Read result) (B.state b.old) (B.state b.new) }
         ensures off { (B.state b.old).holder.on ≡ false → 32 ≤ (B.state b.old).size → end_of Read result ≡ WentOff }
+        ensures reads { IfSome (B.state b.old).bytes (λ held. ReadsAtMost (image_reads held) (B.state b.old).holder.bytes_read (B.state b.new).holder.bytes_read) }
         ensures digest { IfOk result (λ finished. (added : List ℕ) → Carries self added → finished.digest ≡ sha256 added) }
         ensures hash { IfOk result (λ finished. IfSome finished.image (λ info. (added : List ℕ) → Carries self added → info.hash ≡ sha256 (take info.covered added))) }
         ensures cost { IfOk result (λ finished. IfSome finished.image (λ info. ReadsAtMost info.end (B.state b.old).holder.bytes_read (B.state b.new).holder.bytes_read)) }

@@ -1,11 +1,12 @@
 // The header of an image.
-ghost use Rattle.std.specs.Prelude.{◌≡◌, ◌+◌, ◌^◌, ◌<◌, ◌≤◌, List, ℕ, length, take, false, IfOk, IfErr, IfSome, OnOk};
+ghost use Rattle.std.specs.Prelude.{◌≡◌, ◌+◌, ◌^◌, ◌<◌, ◌≤◌, List, ℕ, length, take, false, IfOk, IfErr, IfSome, OnOk, is_ok};
 ghost use Rattle.smp_flash.specs.State.{end_of};
 ghost use Rattle.smp_flash.specs.State.End.{WentOff};
 ghost use Rattle.smp_flash.specs.declared.flash.Operation.TheVariants.{Read};
 ghost use Rattle.smp_model.specs.Image.{header_of, covered_of, with_header, with_areas};
 ghost use Rattle.smp_tlv.specs.Covered.{header_covers};
 ghost use Rattle.smp_tlv.specs.Faults.{unless, IsOfHeader};
+ghost use Rattle.smp_tlv.specs.Reads.{passes};
 ghost use Rattle.smp_tlv.specs.State.{Looks};
 
 use crate::bytes::Bytes;
@@ -83,6 +84,7 @@ pub fn covered_by(header: &ImageHeader) -> Result<u64, ImageFault>
 pub fn check_header(header: &ImageHeader, size: u32) -> Result<u32, ImageFault>
     ensures tests { (b : List ℕ) → length b ≡ size → with_header header.now b ≡ unless result (with_areas header.now b) }
     ensures covered { IfOk result (λ covered. covered ≡ covered_of header.now) }
+    ensures passes { is_ok result ≡ passes header.now size }
     ensures fits { IfOk result (λ covered. covered + 4 ≤ size) }
     ensures small { OnOk result (header.now.protected_size ≤ 65535) }
     ensures least { IfOk result (λ covered. 32 + header.now.protected_size ≤ covered) }

@@ -6,6 +6,7 @@ ghost use Rattle.smp_flash.specs.State.End.{Went, WentOff};
 ghost use Rattle.smp_flash.specs.declared.flash.Operation.TheVariants.{Read};
 ghost use Rattle.smp_model.specs.Image.{image_of};
 ghost use Rattle.smp_tlv.specs.Faults.{IsOfBytes, IsOfReading, image_fault};
+ghost use Rattle.smp_tlv.specs.Reads.{image_reads};
 ghost use Rattle.smp_tlv.specs.State.{Looks, IsInside, image_end, image_cost};
 
 use crate::area::{has_protected, read_tlvs};
@@ -18,6 +19,7 @@ use smp_model::{ImageFault, ImageInfo};
 pub fn find_image<B: Bytes>(b: &mut B) -> Result<Result<ImageInfo, ImageFault>, FlashFault>
     ensures looks { Looks 131102 (end_of Read result) (B.state b.old) (B.state b.new) }
     ensures off { (B.state b.old).holder.on ≡ false → 32 ≤ (B.state b.old).size → end_of Read result ≡ WentOff }
+    ensures reads { IfSome (B.state b.old).bytes (λ held. ReadsAtMost (image_reads held) (B.state b.old).holder.bytes_read (B.state b.new).holder.bytes_read) }
     ensures answer { IfOk result (λ answer. IfSome (B.state b.old).bytes (λ held. answer ≡ image_of held)) }
     ensures cost { IfOk result (λ answer. ReadsAtMost (image_cost answer) (B.state b.old).holder.bytes_read (B.state b.new).holder.bytes_read) }
     ensures kind { IfOk result (λ answer. IfErr answer IsOfBytes) }
@@ -56,6 +58,7 @@ pub fn passed_on(fault: FlashFault) -> ImageFault
 /// `Off` always where it was off and there is a header to read, and nothing is read after them. At most 131102 bytes are read: a header and two areas of TLVs.
 pub fn read_image<B: Bytes>(b: &mut B) -> Result<ImageInfo, ImageFault>
     ensures looks { Looks 131102 (image_end result) (B.state b.old) (B.state b.new) }
+    ensures reads { IfSome (B.state b.old).bytes (λ held. ReadsAtMost (image_reads held) (B.state b.old).holder.bytes_read (B.state b.new).holder.bytes_read) }
     ensures cost { ReadsAtMost (image_cost result) (B.state b.old).holder.bytes_read (B.state b.new).holder.bytes_read }
     ensures off { (B.state b.old).holder.on ≡ false → 32 ≤ (B.state b.old).size → image_end result ≡ WentOff }
     ensures image { image_end result ≡ Went → IfSome (B.state b.old).bytes (λ held. result ≡ image_of held) }

@@ -598,7 +598,7 @@ fn an_off_holder_answers_off(rt: HostRuntime) -> Result<(), Fail> {
 }
 
 /// The file of these bytes: first so many of them, then pieces of that size.
-fn carry(bytes: &[u8], first: usize, size: usize) -> Carried
+pub(crate) fn carry(bytes: &[u8], first: usize, size: usize) -> Carried
     ensures { Carries result bytes.now }
 {
     let mut carried = Carried::new();

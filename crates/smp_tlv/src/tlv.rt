@@ -1,10 +1,11 @@
 // TLVs, read one after the other.
-ghost use Rattle.std.specs.Prelude.{◌≡◌, ◌+◌, ◌-◌, ◌<◌, ◌≤◌, [], drop, IfOk, IfSome};
+ghost use Rattle.std.specs.Prelude.{◌≡◌, ◌+◌, ◌-◌, ◌<◌, ◌≤◌, ◌==◌, ◌&&◌, not, [], drop, IfOk, IfSome};
 ghost use Rattle.smp_flash.specs.Area.{area};
 ghost use Rattle.smp_flash.specs.Calls.{ReadsAtMost};
 ghost use Rattle.smp_flash.specs.State.{end_of};
 ghost use Rattle.smp_flash.specs.declared.flash.Operation.TheVariants.{Read};
 ghost use Rattle.smp_model.specs.Image.{number_16};
+ghost use Rattle.smp_tlv.specs.Reads.{area_reads, is_missing, left_reads, value_reads, walk_reads, ReadsLeft};
 ghost use Rattle.smp_tlv.specs.State.{Looks};
 ghost use Rattle.smp_tlv.specs.declared.tlv.Hashes.TheVariants.{Missing};
 ghost use Rattle.smp_tlv.specs.Walking.{only_with, outcome, tlvs_between, Follows, GoesOn, Adds, tlv_cost};
@@ -72,6 +73,8 @@ pub fn read_head<B: Bytes>(b: &mut B, at: u32) -> Result<Head, FlashFault>
 fn read_value<B: Bytes>(b: &mut B, at: u32, head: Head, found: Hashes) -> Result<Hashes, FlashFault>
     requires { at + head.second ≤ (B.state b.old).size }
     ensures looks { Looks head.second (end_of Read result) (B.state b.old) (B.state b.new) }
+    ensures reads { ReadsAtMost (value_reads (is_missing found) head.first head.second) (B.state b.old).holder.bytes_read (B.state b.new).holder.bytes_read }
+    ensures missing { IfOk result (λ next. is_missing next ≡ (is_missing found && not (head.first == 16))) }
     ensures adds { IfOk result (λ next. IfSome (B.state b.old).bytes (λ held. Adds found (record { kind = head.first; value = area at head.second held }) next)) }
 {
     if head.first != HASH {
@@ -93,6 +96,8 @@ fn read_tlv<B: Bytes>(b: &mut B, walk: Walk, end: u32) -> Result<Option<Walk>, F
     requires inside { end ≤ (B.state b.old).size }
     ensures looks { Looks (end - walk.at) (end_of Read result) (B.state b.old) (B.state b.new) }
     ensures cost { IfOk result (λ next. ReadsAtMost (tlv_cost walk.at end next) (B.state b.old).holder.bytes_read (B.state b.new).holder.bytes_read) }
+    ensures reads { IfSome (B.state b.old).bytes (λ held. ReadsAtMost (walk_reads walk end held) (B.state b.old).holder.bytes_read (B.state b.new).holder.bytes_read) }
+    ensures left { IfOk result (λ next. IfSome (B.state b.old).bytes (λ held. ReadsLeft (left_reads end next held) (walk_reads walk end held) (B.state b.old).holder.bytes_read (B.state b.new).holder.bytes_read)) }
     ensures goes_on { IfOk result (GoesOn walk.at end) }
     ensures follows { IfOk result (λ next. IfSome (B.state b.old).bytes (Follows walk.found walk.at end next)) }
 {
@@ -122,6 +127,7 @@ pub fn read_hash<B: Bytes>(
     requires order { at ≤ end }
     requires inside { end ≤ (B.state b.old).size }
     ensures looks { Looks (end - at) (end_of Read result) (B.state b.old) (B.state b.new) }
+    ensures reads { IfSome (B.state b.old).bytes (λ held. ReadsAtMost (area_reads at end held) (B.state b.old).holder.bytes_read (B.state b.new).holder.bytes_read) }
     ensures hash { IfOk result (λ hash. IfSome (B.state b.old).bytes (λ held. hash ≡ outcome Missing (tlvs_between at end held))) }
 {
     let mut walk = Walk {
