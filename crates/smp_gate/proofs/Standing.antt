@@ -72,3 +72,17 @@ cell_there cell at (suc n) (false ∷ gates) side stand low =
 pub cell_used : (cell size n : ℕ) (gates : List Bool) (side : List ℕ) → Used cell size gates side → cells_in cell size side ≡ cells_from cell (cells_at size) (length gates) side → n < standing gates
     → cell_of n (cells_in cell size side) ≡ Some (area (cells_at size + place_of n gates * span cell) cell side)
 cell_used cell size n gates side used is low = ap (cell_of n) is ∙ cell_there cell (cells_at size) n gates side used.stand low
+
+-- as many cells count as gates stand
+pub cells_count : (cell at : ℕ) (gates : List Bool) (side : List ℕ) → gates_from cell at (length gates) side ≡ gates → length (cells_from cell at (length gates) side) ≡ standing gates
+cells_count cell at [] side stand = refl
+cells_count cell at (true ∷ gates) side stand =
+    let b : bytes_eq (area (at + filled cell) 8 side) gate ≡ true = cc stand in
+    let rest : gates_from cell (at + span cell) (length gates) side ≡ gates = cc stand in
+    ap (λ (t : Bool). length (counted t (area at cell side) (cells_from cell (at + span cell) (length gates) side))) b
+    ∙ ap suc (cells_count cell (at + span cell) gates side rest)
+cells_count cell at (false ∷ gates) side stand =
+    let b : bytes_eq (area (at + filled cell) 8 side) gate ≡ false = cc stand in
+    let rest : gates_from cell (at + span cell) (length gates) side ≡ gates = cc stand in
+    ap (λ (t : Bool). length (counted t (area at cell side) (cells_from cell (at + span cell) (length gates) side))) b
+    ∙ cells_count cell (at + span cell) gates side rest

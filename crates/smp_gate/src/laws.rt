@@ -1,8 +1,8 @@
 // Laws of the definitions that the layers above cite, each as the contract of a function that does nothing.
-ghost use Rattle.std.specs.Prelude.{◌≡◌, ◌+◌, ◌≤◌, List, ℕ, Some};
+ghost use Rattle.std.specs.Prelude.{◌≡◌, ◌+◌, ◌≤◌, List, ℕ, Some, length};
 ghost use Rattle.smp_flash.specs.declared.layout.BankPlace.{BankPlace as Place};
 ghost use Rattle.smp_gate.specs.Bank.{BankState, BankSays, current};
-ghost use Rattle.smp_gate.specs.Cells.{cells_in};
+ghost use Rattle.smp_gate.specs.Cells.{cells_in, standing};
 ghost use Rattle.smp_flash.specs.Area.{area, blank, Clear, Keeps};
 ghost use Rattle.smp_flash.specs.Geometry.{size_of};
 ghost use Rattle.smp_flash.specs.Layout.{geometry_of, progress_of, settings_of};
@@ -20,11 +20,14 @@ pub fn bank_outlasts_other_changes()
         → Keeps spots old new → content_of place cell new ≡ content_of place cell old }
 {}
 
-/// What the bank's value says, by the bytes: the newest side has its generation, and the bank has a content.
+/// What the bank's value says, by the bytes: the newest side has its generation, and the bank has a content, with as many cells
+/// as gates stand.
 pub fn bank_says_what_stands()
     ensures generation { (bank : BankState) (bytes : List ℕ) → BankSays bank bytes → newest_generation bank.place bytes ≡ bank.generation }
     ensures content { (bank : BankState) (bytes : List ℕ) (says : BankSays bank bytes)
         → content_of bank.place bank.cell bytes ≡ Some (record { body = says.body; cells = cells_in bank.cell bank.size (area (current bank.place bank.second) 4096 bytes) }) }
+    ensures cells { (bank : BankState) (bytes : List ℕ) → BankSays bank bytes
+        → length (cells_in bank.cell bank.size (area (current bank.place bank.second) 4096 bytes)) ≡ standing bank.gates }
 {}
 
 /// A generation that never fell in either of two changes, and rose by at most m and n, rose by at most m + n in both.
