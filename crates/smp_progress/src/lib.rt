@@ -25,6 +25,8 @@ mod cells;
 mod laws;
 mod progress;
 mod record;
+#[cfg(test)]
+mod tests;
 
 pub use laws::{progress_outlasts_other_changes, records_are_lawful, records_are_told_apart};
 pub use progress::Progress;

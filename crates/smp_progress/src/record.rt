@@ -174,7 +174,7 @@ pub fn may_stand(layout: &Layout, announcement: Announcement, offset: u32, rescu
 }
 
 /// Whether the record may stand on a flash of these sizes.
-fn is_record(layout: &Layout, entry: &Record) -> bool
+pub fn is_record(layout: &Layout, entry: &Record) -> bool
     ensures { IsTrue result ↔ IsRecord (geometry_of layout.now) entry.now }
 {
     match entry {
