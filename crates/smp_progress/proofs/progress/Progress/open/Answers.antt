@@ -1,0 +1,29 @@
+use Rattle.std.proofs.Common.{◌∙◌, ap}
+use Rattle.smp_flash.specs.Layout.{geometry_of}
+use Rattle.smp_flash.proofs.Sizes.{regular}
+use Rattle.smp_flash.proofs.Telling.{IfSome-same}
+use Rattle.smp_gate.specs.Bank.{BankState, BankSays}
+use Rattle.smp_gate.specs.declared.fault.BankFault.TheVariants.{Unformatted}
+use Rattle.smp_progress.proofs.Lasting.{says_all}
+use Rattle.smp_progress.proofs.Opening.{opened, none_opened, err_again}
+use Rattle.smp_progress.proofs.progress.Progress.open.Goals as goal
+
+pub returns-in-Ok-after_cells-clause-says : goal.returns-in-Ok-after_cells-clause-says
+returns-in-Ok-after_cells-clause-says g c =
+    let x = (g.F.Flash.state c.open.new.flash).bytes in
+    let y = (g.F.Flash.state c.after_cells.new.flash).bytes in
+    let read = c.read_record.ensures.some c.in-Some.first c.in-Some.is in
+    says_all (record { layout = c.args.layout.now; bank = c.in-Ok.bank; entry = c.in-Ok-after_cells.entry }) y
+    (ap (λ (b : BankState). b.place) c.in-Ok.ensures.bank ∙ c.progress.ensures)
+    (IfSome-same (BankSays c.in-Ok.bank) x y c.after_cells.ensures.kept c.in-Ok.ensures.says)
+    (opened c.args.layout.now c.in-Some.first c.in-Ok-after_cells.entry c.as_slice.result.now c.open.new.body.items c.progress.result x y c.progress.ensures c.as_slice.ensures.value
+    read.0 read.1 c.in-Ok.ensures.content c.in-Ok-after_cells.ensures.gives c.after_cells.ensures.kept)
+
+pub returns-in-Err-after_cells-clause-unformatted : goal.returns-in-Err-after_cells-clause-unformatted
+returns-in-Err-after_cells-clause-unformatted g c = λ is.
+    let x = (g.F.Flash.state c.open.new.flash).bytes in
+    let y = (g.F.Flash.state c.after_cells.new.flash).bytes in
+    let layout = c.args.layout.now in
+    let read = c.read_record.ensures.some c.in-Some.first c.in-Some.is in
+    none_opened layout c.in-Some.first c.as_slice.result.now c.open.new.body.items c.progress.result x y (regular (geometry_of layout) layout.lawful).slot_most c.progress.ensures c.as_slice.ensures.value
+    read.0 read.1 c.in-Ok.ensures.content (c.in-Err-after_cells.ensures.unformatted (err_again c.in-Err-after_cells.fault Unformatted is)) c.after_cells.ensures.kept

@@ -1,0 +1,5 @@
+pub mod Ending
+pub mod Laying
+pub mod Moving
+pub mod Paying
+pub mod Wiping

@@ -1,0 +1,25 @@
+use Rattle.std.proofs.Common.{◌≤◌, arith}
+use Rattle.smp_flash.proofs.Sizes.{regular}
+use Rattle.smp_slot.proofs.Ending.{end_placed, told_blank, told_free, end_Calls}
+use Rattle.smp_slot.proofs.marks.mark.Goals as goal
+
+pub write_mark-requires-clause-flag : goal.write_mark-requires-clause-flag
+write_mark-requires-clause-flag g c =
+    let sizes = (g.F.Flash.state c.args.flash.now).geometry in
+    let p = end_placed c.args.slot sizes (regular sizes (g.met.F.Flash.lawful c.args.flash.now)) c.requires.slot in
+    told_blank c.args.slot sizes 24 8 _ _ p (omega arith) (omega arith) c.in-Ok.ensures.erased
+
+pub write_mark-requires-clause-magic : goal.write_mark-requires-clause-magic
+write_mark-requires-clause-magic g c =
+    let sizes = (g.F.Flash.state c.args.flash.now).geometry in
+    let p = end_placed c.args.slot sizes (regular sizes (g.met.F.Flash.lawful c.args.flash.now)) c.requires.slot in
+    told_blank c.args.slot sizes 16 16 _ _ p (omega arith) (omega arith) c.in-Ok.ensures.erased
+
+pub returns-in-Ok-clause-calls : goal.returns-in-Ok-clause-calls
+returns-in-Ok-clause-calls g c =
+    let sizes = (g.F.Flash.state c.args.flash.now).geometry in
+    let p = end_placed c.args.slot sizes (regular sizes (g.met.F.Flash.lawful c.args.flash.now)) c.requires.slot in
+    end_Calls c.args.slot sizes 24 24 _ _ _ _ p (omega arith) (omega arith) c.in-Ok.ensures.calls c.write_mark.ensures.calls
+
+pub returns-in-Err-clause-either : goal.returns-in-Err-clause-either
+returns-in-Err-clause-either g c = told_free c.args.slot (g.F.Flash.state c.args.flash.now).geometry c.args.mark _ _ c.requires.free c.clear_end.ensures.fades

@@ -1,0 +1,4 @@
+pub mod Laid
+pub mod Marks
+pub mod Moved
+pub mod Slots
