@@ -1,0 +1,4 @@
+pub mod Requests
+pub mod Sessions
+pub mod Waits
+pub mod Laws
