@@ -293,7 +293,7 @@ ascending_behind name_of (y ∷ front) x rest h =
     ascending_behind name_of front x rest (right_of (list_all (λ z. comes_before (name_of y) (name_of z)) (front ++ x ∷ rest)) (is_ascending name_of (front ++ x ∷ rest)) h)
 
 -- the one of a name is taken away
-before_other : (a b : List ℕ) → comes_before a b ≡ true → not (bytes_eq a b) ≡ true
+pub before_other : (a b : List ℕ) → comes_before a b ≡ true → not (bytes_eq a b) ≡ true
 before_other a b h = go (bytes_eq a b) refl
   where
     go : (t : Bool) → bytes_eq a b ≡ t → not t ≡ true
