@@ -11,6 +11,8 @@ mod buffer;
 mod fault;
 mod file;
 mod table;
+#[cfg(test)]
+mod tests;
 
 pub use fault::FileFault;
 pub use table::FileTable;
