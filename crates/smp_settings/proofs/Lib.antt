@@ -1,0 +1,5 @@
+pub mod Changing
+pub mod Forms
+pub mod Limits
+pub mod Naming
+pub mod Tables
