@@ -16,6 +16,8 @@ mod marks;
 mod page;
 mod scratch;
 mod slot;
+#[cfg(test)]
+mod tests;
 
 pub use erasing::wipe;
 pub use laws::slots_fit;
