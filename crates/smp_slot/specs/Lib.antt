@@ -1,3 +1,4 @@
+pub mod Costs
 pub mod Laid
 pub mod Marks
 pub mod Moved

@@ -11,12 +11,16 @@
 #![tactic(auto)]
 
 mod erasing;
+mod laws;
 mod marks;
 mod page;
 mod scratch;
 mod slot;
+#[cfg(test)]
+mod tests;
 
 pub use erasing::wipe;
+pub use laws::slots_fit;
 pub use marks::{confirm, confirmed, mark, marked};
 pub use scratch::{from_scratch, to_scratch};
 pub use slot::{put, tail_is_clean};

@@ -1,7 +1,7 @@
 // A write within one page.
 ghost use Rattle.std.specs.Prelude.{◌≡◌, ◌+◌, ◌-◌, ◌<◌, ◌≤◌, ◌%◌, ◌++◌, length, take, true, OnOk, IfSome};
 ghost use Rattle.smp_flash.specs.Area.{area, blank, spot, Told};
-ghost use Rattle.smp_flash.specs.Calls.{Calls, Smaller};
+ghost use Rattle.smp_flash.specs.Calls.{Calls, ReadsAtMost, ChangesAtMost, Smaller};
 ghost use Rattle.smp_flash.specs.Geometry.{size_of, IsPage, IsUnit};
 ghost use Rattle.smp_flash.specs.Region.{counts};
 ghost use Rattle.smp_flash.specs.State.{ended};
@@ -45,6 +45,10 @@ fn ready_page<F: Flash>(flash: &mut F, at: u32, room: u32, page: u32) -> Result<
     requires inside { at + room ≤ size_of (F.state flash.old).geometry }
     requires clean { room < page → IfSome (F.state flash.old).bytes (λ held. area at room held ≡ blank room) }
     ensures calls { Calls (spot at room) (ended result) (F.state flash.old) (F.state flash.new) }
+    ensures reads { ReadsAtMost page (F.state flash.old).bytes_read (F.state flash.new).bytes_read }
+    ensures inner_reads { room < page → ReadsAtMost 0 (F.state flash.old).bytes_read (F.state flash.new).bytes_read }
+    ensures changes { ChangesAtMost 0 1 (F.state flash.old).changes (F.state flash.new).changes }
+    ensures inner { room < page → ChangesAtMost 0 0 (F.state flash.old).changes (F.state flash.new).changes }
     ensures ready { OnOk result (IfSome (F.state flash.new).bytes (λ held. area at room held ≡ blank room)) }
 {
     if room < page {
@@ -74,6 +78,8 @@ fn write_padded<F: Flash>(
     requires inside { at + room ≤ size_of (F.state flash.old).geometry }
     requires clean { IfSome (F.state flash.old).bytes (λ held. area at room held ≡ blank room) }
     ensures calls { Calls (spot at room) (ended result) (F.state flash.old) (F.state flash.new) }
+    ensures reads { ReadsAtMost 0 (F.state flash.old).bytes_read (F.state flash.new).bytes_read }
+    ensures changes { ChangesAtMost 1 0 (F.state flash.old).changes (F.state flash.new).changes }
     ensures ok { OnOk result (Told (Laid at (room - length bytes.now) bytes.now) (F.state flash.old).bytes (F.state flash.new).bytes) }
     ensures pays { OnOk result (counts (F.state flash.old).geometry (F.state flash.old).aim at ≡ true → Smaller (F.state flash.old).patience (F.state flash.new).patience) }
 {
@@ -90,6 +96,8 @@ fn write_units<F: Flash>(flash: &mut F, at: u32, room: u32, bytes: &[u8]) -> Res
     requires inside { at + room ≤ size_of (F.state flash.old).geometry }
     requires clean { IfSome (F.state flash.old).bytes (λ held. area at room held ≡ blank room) }
     ensures calls { Calls (spot at room) (ended result) (F.state flash.old) (F.state flash.new) }
+    ensures reads { ReadsAtMost 0 (F.state flash.old).bytes_read (F.state flash.new).bytes_read }
+    ensures changes { ChangesAtMost 1 0 (F.state flash.old).changes (F.state flash.new).changes }
     ensures ok { OnOk result (Told (Laid at (room - length bytes.now) bytes.now) (F.state flash.old).bytes (F.state flash.new).bytes) }
     ensures pays { OnOk result (counts (F.state flash.old).geometry (F.state flash.old).aim at ≡ true → Smaller (F.state flash.old).patience (F.state flash.new).patience) }
 {
@@ -114,6 +122,8 @@ fn write_bytes<F: Flash>(
     requires inside { at + room ≤ size_of (F.state flash.old).geometry }
     requires clean { IfSome (F.state flash.old).bytes (λ held. area at room held ≡ blank room) }
     ensures calls { Calls (spot at room) (ended result) (F.state flash.old) (F.state flash.new) }
+    ensures reads { ReadsAtMost 0 (F.state flash.old).bytes_read (F.state flash.new).bytes_read }
+    ensures changes { ChangesAtMost 1 0 (F.state flash.old).changes (F.state flash.new).changes }
     ensures ok { OnOk result (Told (Laid at (room - length bytes.now) bytes.now) (F.state flash.old).bytes (F.state flash.new).bytes) }
     ensures pays { OnOk result (counts (F.state flash.old).geometry (F.state flash.old).aim at ≡ true → Smaller (F.state flash.old).patience (F.state flash.new).patience) }
 {
@@ -147,6 +157,10 @@ pub fn put_in_page<F: Flash>(
     requires inside { at + room ≤ size_of (F.state flash.old).geometry }
     requires clean { room < page → IfSome (F.state flash.old).bytes (λ held. area at room held ≡ blank room) }
     ensures calls { Calls (spot at room) (ended result) (F.state flash.old) (F.state flash.new) }
+    ensures reads { ReadsAtMost page (F.state flash.old).bytes_read (F.state flash.new).bytes_read }
+    ensures inner_reads { room < page → ReadsAtMost 0 (F.state flash.old).bytes_read (F.state flash.new).bytes_read }
+    ensures changes { ChangesAtMost 1 1 (F.state flash.old).changes (F.state flash.new).changes }
+    ensures inner { room < page → ChangesAtMost 1 0 (F.state flash.old).changes (F.state flash.new).changes }
     ensures ok { OnOk result (Told (Laid at (room - length bytes.now) bytes.now) (F.state flash.old).bytes (F.state flash.new).bytes) }
     ensures pays { OnOk result (counts (F.state flash.old).geometry (F.state flash.old).aim at ≡ true → Smaller (F.state flash.old).patience (F.state flash.new).patience) }
 {

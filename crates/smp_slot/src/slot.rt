@@ -1,10 +1,11 @@
 // Bytes are put into a slot, and what follows them is looked at.
-ghost use Rattle.std.specs.Prelude.{◌≡◌, ◌⊎◌, ◌+◌, ◌-◌, ◌<◌, ◌≤◌, ◌%◌, ◌^◌, length, true, OnOk, IfOk, IfSome, ◌↔◌, IsTrue};
+ghost use Rattle.std.specs.Prelude.{◌≡◌, ◌⊎◌, ◌+◌, ◌-◌, ◌*◌, ◌<◌, ◌≤◌, ◌%◌, ◌^◌, length, true, OnOk, IfOk, IfSome, ◌↔◌, IsTrue};
 ghost use Rattle.smp_flash.specs.Area.{area, blank, spot, Told};
 ghost use Rattle.smp_flash.specs.Calls.{Calls, Smaller, ReadsAtMost, ChangesAtMost};
 ghost use Rattle.smp_flash.specs.Geometry.{size_of, IsPage, IsUnit, tail, room};
 ghost use Rattle.smp_flash.specs.Region.{counts};
 ghost use Rattle.smp_flash.specs.State.{ended};
+ghost use Rattle.smp_slot.specs.Costs.{entered, begun};
 ghost use Rattle.smp_slot.specs.Laid.{Laid};
 ghost use Rattle.smp_slot.specs.Slots.{IsSlot};
 
@@ -47,6 +48,10 @@ pub fn put<F: Flash>(flash: &mut F, slot: Area, at: u32, bytes: &[u8]) -> Result
     requires inside { at + length bytes.now + (F.state flash.old).geometry.page ≤ slot.length }
     requires clean { IfSome (F.state flash.old).bytes (λ held. area (slot.at + at) (tail (F.state flash.old).geometry.page at) held ≡ blank (tail (F.state flash.old).geometry.page at)) }
     ensures calls { Calls (spot (slot.at + at) (length bytes.now + tail (F.state flash.old).geometry.page (at + length bytes.now))) (ended result) (F.state flash.old) (F.state flash.new) }
+    ensures reads { ReadsAtMost (begun (F.state flash.old).geometry.page at (length bytes.now) * (F.state flash.old).geometry.page) (F.state flash.old).bytes_read (F.state flash.new).bytes_read }
+
+    // One write for each page that the bytes enter, and at most one erase for each that they begin.
+    ensures changes { ChangesAtMost (entered (F.state flash.old).geometry.page at (length bytes.now)) (begun (F.state flash.old).geometry.page at (length bytes.now)) (F.state flash.old).changes (F.state flash.new).changes }
     ensures ok { OnOk result (Told (Laid (slot.at + at) (tail (F.state flash.old).geometry.page (at + length bytes.now)) bytes.now) (F.state flash.old).bytes (F.state flash.new).bytes) }
     ensures pays { OnOk result (0 < length bytes.now → counts (F.state flash.old).geometry (F.state flash.old).aim (slot.at + at) ≡ true → Smaller (F.state flash.old).patience (F.state flash.new).patience) }
 {
@@ -71,6 +76,8 @@ fn put_pages<F: Flash>(
     requires inside { at + length bytes.now + page ≤ size_of (F.state flash.old).geometry }
     requires clean { IfSome (F.state flash.old).bytes (λ held. area at (tail page at) held ≡ blank (tail page at)) }
     ensures calls { Calls (spot at (length bytes.now + tail page (at + length bytes.now))) (ended result) (F.state flash.old) (F.state flash.new) }
+    ensures reads { ReadsAtMost (begun page at (length bytes.now) * page) (F.state flash.old).bytes_read (F.state flash.new).bytes_read }
+    ensures changes { ChangesAtMost (entered page at (length bytes.now)) (begun page at (length bytes.now)) (F.state flash.old).changes (F.state flash.new).changes }
     ensures ok { OnOk result (Told (Laid at (tail page (at + length bytes.now)) bytes.now) (F.state flash.old).bytes (F.state flash.new).bytes) }
     ensures pays { OnOk result (0 < length bytes.now → counts (F.state flash.old).geometry (F.state flash.old).aim at ≡ true → Smaller (F.state flash.old).patience (F.state flash.new).patience) }
 {

@@ -1,0 +1,11 @@
+-- What it costs to put bytes: the pages that they enter, each written once, and those of them that they begin.
+use Rattle.std.specs.Prelude.{◌+◌, ◌-◌, ◌/◌, ◌%◌, ℕ, zero, suc}
+
+-- the pages that n bytes from a place on enter
+abbrev pub entered : ℕ → ℕ → ℕ → ℕ
+entered page at zero = 0
+entered page at (suc n) = (at % page + suc n + page - 1) / page
+
+-- the pages whose first byte is among them
+abbrev pub begun : ℕ → ℕ → ℕ → ℕ
+begun page at n = (at % page + n + page - 1) / page - (at % page + page - 1) / page
