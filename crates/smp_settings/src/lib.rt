@@ -15,10 +15,12 @@
 #![tactic(auto)]
 
 mod cell;
-mod difference;
 mod entry;
 mod fault;
 mod form;
+mod saved;
+mod settings;
 mod table;
 
 pub use fault::SettingFault;
+pub use settings::Settings;
