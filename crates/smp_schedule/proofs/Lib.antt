@@ -1,0 +1,5 @@
+pub mod Texts
+pub mod Cuts
+pub mod Numbers
+pub mod Settings
+pub mod Events
