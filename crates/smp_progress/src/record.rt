@@ -44,6 +44,7 @@ fn put_digest(out: &mut ArrayVec<u8, 48>, digest: &Option<[u8; 32]>)
     }
 }
 
+/// The byte of an upload's kind: 02 with a rescue under way, else 01.
 pub fn kind_byte(rescue: bool) -> u8
     ensures { result ≡ kind_of rescue }
 {
@@ -112,6 +113,7 @@ pub fn put_record(out: &mut ArrayVec<u8, 48>, version: u8, image: u8, entry: &Re
     }
 }
 
+/// The big-endian number of four bytes that stands at `at`.
 pub fn number_at(bytes: &[u8], at: usize) -> u32
     requires { at + 4 ≤ length bytes.now }
     ensures { result ≡ number_in at bytes.now }
