@@ -11,7 +11,11 @@ use Rattle.smp_flash.specs.Layout.{settings_of, bank_spots}
 use Rattle.smp_flash.specs.State.{FlashState, End}
 use Rattle.smp_flash.specs.declared.layout.BankPlace.{BankPlace}
 use Rattle.smp_flash.specs.declared.layout.Layout.{Layout}
+use Rattle.smp_flash.proofs.Telling.{Told-map}
 use Rattle.smp_gate.specs.Bank.{BankState, BankSays, current}
+use Rattle.smp_gate.specs.Fault.{after_fault}
+use Rattle.smp_gate.specs.declared.fault.BankFault.{BankFault}
+use Rattle.smp_gate.specs.declared.fault.BankFault.TheVariants as faults
 use Rattle.smp_gate.specs.Cells.{cells_in, cell_of, places, standing}
 use Rattle.smp_gate.specs.Newest.{Content, just, content_of, HasBody, HasCell, SameOrAdded, SameOrThis, Added, sides}
 use Rattle.smp_model.specs.declared.setting.Setting.{Setting}
@@ -239,3 +243,47 @@ lawful_setting name val some few text short =
     let named : is_setting_name name ≡ true = grind (arith, nat_tests, some, few) in
     let valued : is_setting_value val ≡ true = grind (arith, nat_tests, short) in
     both_of (is_setting_name name && is_utf8 name) (is_setting_value val) (both_of (is_setting_name name) (is_utf8 name) named text) valued
+
+-- after a replacement, of bytes that may not be told
+pub either_told : (layout : Layout) (place : BankPlace) (cell : ℕ) (running : List Setting) (bytes : List ℕ) (x y : Option (List ℕ)) → place ≡ settings_of layout → cell ≡ cell_length → bytes ≡ stored_form running
+    → settings_in (stored_form running) ≡ Some running → Told (SameOrThis place cell (just bytes)) x y → Told (SavedOrThis layout running) x y
+either_told layout place cell running bytes x y p c b back h =
+    Told-map (SameOrThis place cell (just bytes)) (SavedOrThis layout running) x y
+    (λ u v s. body_leaves layout running u v back (subst (λ (bs : List ℕ). SameOrThis (settings_of layout) cell_length (just bs) u v) b
+    (subst (λ (n : ℕ). SameOrThis (settings_of layout) n (just bytes) u v) c (subst (λ (q : BankPlace). SameOrThis q cell (just bytes) u v) p s)))) h
+
+pub all_saved : (layout : Layout) (place : BankPlace) (cell : ℕ) (running : List Setting) (bytes : List ℕ) (y : Option (List ℕ)) → place ≡ settings_of layout → cell ≡ cell_length → bytes ≡ stored_form running
+    → settings_in (stored_form running) ≡ Some running → IfSome y (λ held. content_of place cell held ≡ Some (just bytes)) → IfSome y (SavedStand layout running)
+all_saved layout place cell running bytes None p c b back h = tt
+all_saved layout place cell running bytes (Some held) p c b back h =
+    body_saved layout running held back (ap (λ (q : BankPlace). content_of q cell_length held) (sym p) ∙ (ap (λ n. content_of place n held) (sym c) ∙ (h ∙ ap (λ bs. Some (just bs)) b)))
+
+some_either : (layout : Layout) (running : List Setting) (u v : List ℕ) → SavedReadable layout u → SavedOrThis layout running u v → SavedReadable layout v
+some_either layout running u v r (inl same) = ap is_some same ∙ r
+some_either layout running u v r (inr this) = ap is_some this
+
+-- what the value says after a save of some kind
+pub says_after : (s t : SettingsState) (x y : Option (List ℕ)) → IfSome x (SettingsSay s) → Told (SavedOrThis s.layout s.running) x y → t.layout ≡ s.layout → t.bank.place ≡ s.bank.place
+    → (t.bank.sure ≡ true → IfSome y (BankSays t.bank) × IfSome y (SavedStand t.layout t.saved)) → IfSome y (SettingsSay t)
+says_after s t x None says either l p sure = tt
+says_after s t None (Some v) says either l p sure = absurd either
+says_after s t (Some u) (Some v) says either l p sure = record {
+  readable = subst (λ (m : Layout). SavedReadable m v) (sym l) (some_either s.layout s.running u v says.readable either);
+  place = p ∙ (says.place ∙ ap settings_of (sym l));
+  bank = λ e. (sure e).0;
+  saved = λ e. (sure e).1;
+}
+
+-- a bank that is sure after a fault of a replacement is worn, and as before
+pub worn_stays : (fault : BankFault) (bank now : BankState) → now ≡ after_fault fault bank → now.sure ≡ true → (fault ≡ faults.Unformatted → ⊥) → (fault ≡ faults.Full → ⊥) → (now ≡ bank) × (fault ≡ faults.Worn)
+worn_stays faults.Unformatted bank now e s f g = absurd (f refl)
+worn_stays (faults.Fault operation) bank now e s f g = absurd (unsure (sym (ap (λ (b : BankState). b.sure) e) ∙ s))
+  where
+    unsure : false ≡ true → ⊥
+    unsure k = cc
+worn_stays faults.Off bank now e s f g = absurd (unsure (sym (ap (λ (b : BankState). b.sure) e) ∙ s))
+  where
+    unsure : false ≡ true → ⊥
+    unsure k = cc
+worn_stays faults.Full bank now e s f g = absurd (g refl)
+worn_stays faults.Worn bank now e s f g = (e, refl)

@@ -1,5 +1,5 @@
 // The settings of a device: the running map and the saved one.
-ghost use Rattle.std.specs.Prelude.{◌≡◌, ◌↔◌, [], ◌∷◌, option_map, IsTrue, IsErrOf, OnOk, IfOk, IfSome, IsSome, true};
+ghost use Rattle.std.specs.Prelude.{◌≡◌, ◌↔◌, ◌-◌, ◌^◌, [], ◌∷◌, option_map, IsTrue, IsErrOf, OnOk, OnErr, IfOk, IfSome, IsSome, true};
 ghost use Rattle.smp_flash.specs.Area.{area, Told};
 ghost use Rattle.smp_flash.specs.Calls.{Calls, ReadsAtMost, ChangesAtMost};
 ghost use Rattle.smp_flash.specs.Layout.{geometry_of, settings_of, bank_spots};
@@ -9,7 +9,7 @@ ghost use Rattle.smp_gate.specs.Side.{whole_side};
 ghost use Rattle.smp_model.specs.Settings.{stored_form, value_of, deleted_setting, is_within_limits};
 ghost use Rattle.smp_model.specs.SettingsGroup.{writes_setting};
 ghost use Rattle.smp_settings.specs.Found.{HoldsBank};
-ghost use Rattle.smp_settings.specs.Saved.{SavedReadable, SettingsSay, after_write, written_response};
+ghost use Rattle.smp_settings.specs.Saved.{SavedStand, SavedReadable, SavedOrThis, SettingsSay, after_write, written_response};
 
 use crate::cell::CELL;
 use crate::fault::SettingFault;
@@ -19,6 +19,7 @@ use crate::table::Table;
 use arrayvec::ArrayVec;
 use smp_flash::{Flash, Layout};
 use smp_gate::{Bank, BankFault};
+use smp_model::stored_settings_are_read_back;
 use std::marker::Model;
 
 /// The running settings, and the bank of the saved ones with what it holds.
@@ -129,6 +130,88 @@ impl Settings {
         ensures deleted { self.new ≡ record self.old { running = deleted_setting name.now self.old.running } }
     {
         self.running.remove(name)
+    }
+
+    /// Makes the saved settings the running ones. No byte of the flash changes. A refusal leaves all as it was.
+    pub fn load<F: Flash>(&mut self, flash: &mut F) -> Result<(), BankFault>
+        requires layout { geometry_of self.old.layout ≡ (F.state flash.old).geometry }
+        requires says { IfSome (F.state flash.old).bytes (SettingsSay self.old) }
+        ensures calls { Calls (bank_spots (settings_of self.old.layout)) (bank_end result) (F.state flash.old) (F.state flash.new) }
+        ensures kept { (F.state flash.new).bytes ≡ (F.state flash.old).bytes }
+        ensures changes { ChangesAtMost 0 0 (F.state flash.old).changes (F.state flash.new).changes }
+        ensures says { IfSome (F.state flash.new).bytes (SettingsSay self.new) }
+        ensures layout { self.new.layout ≡ self.old.layout }
+        ensures loaded { OnOk result ((self.new.running ≡ self.new.saved) × (self.new.bank.sure ≡ true)) }
+        ensures refused { OnErr result (self.new ≡ self.old) }
+        ensures full { IsErrOf result BankFault.Full → ⊥ }
+        ensures worn { IsErrOf result BankFault.Worn → ⊥ }
+    {
+        match find_saved(flash, &self.layout) {
+            Ok(found) => {
+                *self = opened(self.layout, found);
+                Ok(())
+            }
+            Err(fault) => Err(fault),
+        }
+    }
+
+    /// Opens the bank again where it isn't sure.
+    fn make_sure<F: Flash>(&mut self, flash: &mut F) -> Result<(), BankFault>
+        requires layout { geometry_of self.old.layout ≡ (F.state flash.old).geometry }
+        requires says { IfSome (F.state flash.old).bytes (SettingsSay self.old) }
+        ensures calls { Calls (bank_spots (settings_of self.old.layout)) (bank_end result) (F.state flash.old) (F.state flash.new) }
+        ensures kept { (F.state flash.new).bytes ≡ (F.state flash.old).bytes }
+        ensures changes { ChangesAtMost 0 0 (F.state flash.old).changes (F.state flash.new).changes }
+        ensures says { IfSome (F.state flash.new).bytes (SettingsSay self.new) }
+        ensures layout { self.new.layout ≡ self.old.layout }
+        ensures running { self.new.running ≡ self.old.running }
+        ensures sure { OnOk result (self.new.bank.sure ≡ true) }
+        ensures full { IsErrOf result BankFault.Full → ⊥ }
+        ensures worn { IsErrOf result BankFault.Worn → ⊥ }
+    {
+        if self.bank.is_sure() {
+            return Ok(());
+        }
+        match find_saved(flash, &self.layout) {
+            Ok(found) => {
+                self.bank = found.bank;
+                self.saved = found.saved;
+                write_form(&self.saved, &mut self.form);
+                Ok(())
+            }
+            Err(fault) => Err(fault),
+        }
+    }
+
+    /// Replaces what the bank holds by the stored form of the running settings.
+    fn replace<F: Flash>(&mut self, flash: &mut F) -> Result<(), BankFault>
+        requires layout { geometry_of self.old.layout ≡ (F.state flash.old).geometry }
+        requires says { IfSome (F.state flash.old).bytes (SettingsSay self.old) }
+        requires sure { self.old.bank.sure ≡ true }
+        ensures calls { Calls (bank_spots (settings_of self.old.layout)) (bank_end result) (F.state flash.old) (F.state flash.new) }
+        ensures changes { ChangesAtMost 2 8 (F.state flash.old).changes (F.state flash.new).changes }
+        ensures either { Told (SavedOrThis self.old.layout self.old.running) (F.state flash.old).bytes (F.state flash.new).bytes }
+        ensures all { OnOk result (IfSome (F.state flash.new).bytes (SavedStand self.old.layout self.old.running)) }
+        ensures ages { Told (AgesAtMost 1 (settings_of self.old.layout)) (F.state flash.old).bytes (F.state flash.new).bytes }
+        ensures layout { self.new.layout ≡ self.old.layout }
+        ensures running { self.new.running ≡ self.old.running }
+        ensures saved { OnOk result (self.new.saved ≡ self.old.running) }
+        ensures worn { IsErrOf result BankFault.Worn ↔ (self.old.bank.generation ≡ 2 ^ 32 - 1) }
+        ensures idle { self.old.bank.generation ≡ 2 ^ 32 - 1 → F.state flash.new ≡ F.state flash.old }
+        ensures formatted { IsErrOf result BankFault.Unformatted → ⊥ }
+        ensures full { IsErrOf result BankFault.Full → ⊥ }
+    {
+        stored_settings_are_read_back();
+        let mut form = ArrayVec::new();
+        write_form(&self.running, &mut form);
+        match self.bank.replace(flash, form.as_slice()) {
+            Ok(()) => {
+                self.saved = self.running.copy();
+                self.form = form;
+                Ok(())
+            }
+            Err(fault) => Err(fault),
+        }
     }
 
     /// The stored form of the saved settings that were found or written last.
