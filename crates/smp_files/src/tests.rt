@@ -1,39 +1,23 @@
 // What no clause says: worked answers, at each limit, and that ample memory is enough.
 use crate::{FileFault, FileTable};
-use std::process::Abort;
 use std::test::Fail;
 
 /// The names of as many files as there may be, and one more.
 const NAMES: [&str; 9] = ["b", "a", "é", "d", "c", "f", "e", "h", "g"];
 
-/// Tries each part, and asserts what is answered.
-fn try_parts(
-    rt: &impl Abort,
-    files: &mut FileTable,
-    rows: &[(&str, u32, Option<u32>, &[u8], Result<u32, FileFault>)],
-) {
-    for (name, off, len, part, want) in rows {
-        assert_eq!(rt; files.write(name, *off, *len, part), *want, "{name} {off}");
-    }
-}
-
 /// A file in parts: out of order, twice, past the end, and begun anew.
 #[test]
 fn parts_go_on_where_the_bytes_end(rt: HostRuntime) -> Result<(), Fail> {
     let mut files = FileTable::reserve(rt.alloc())?;
-    let rows = [
-        ("a", 1, None, b"b".as_slice(), Err(FileFault::NoFile)),
-        ("a", 0, None, b"a", Err(FileFault::NoLength)),
-        ("a", 0, Some(0), b"a", Err(FileFault::PastEnd)),
-        ("a", 0, Some(3), b"a", Ok(1)),
-        ("a", 2, None, b"c", Ok(1)),
-        ("a", 1, None, b"bcd", Err(FileFault::PastEnd)),
-        ("a", 1, None, b"bc", Ok(3)),
-        ("a", 1, None, b"bc", Ok(3)),
-        ("a", 3, None, b"", Ok(3)),
-        ("a", 3, None, b"d", Err(FileFault::PastEnd)),
-    ];
-    try_parts(&rt, &mut files, &rows);
+    assert_eq!(rt; files.write("a", 1, None, b"b"), Err(FileFault::NoFile));
+    assert_eq!(rt; files.write("a", 0, None, b"a"), Err(FileFault::NoLength));
+    assert_eq!(rt; files.write("a", 0, Some(0), b"a"), Err(FileFault::PastEnd));
+    assert_eq!(rt; files.write("a", 0, Some(3), b"a"), Ok(1));
+    assert_eq!(rt; files.write("a", 2, None, b"c"), Ok(1));
+    assert_eq!(rt; files.write("a", 1, None, b"bcd"), Err(FileFault::PastEnd));
+    assert_eq!(rt; files.write("a", 1, None, b"bc"), Ok(3));
+    assert_eq!(rt; files.write("a", 1, None, b"bc"), Ok(3));
+    assert_eq!(rt; files.write("a", 3, None, b"d"), Err(FileFault::PastEnd));
     assert_eq!(rt; files.read("a"), Some(b"abc".as_slice()));
     assert_eq!(rt; files.write("a", 0, Some(1), b""), Ok(0));
     assert_eq!(rt; files.read("a"), Some(b"".as_slice()));
@@ -80,7 +64,9 @@ fn limits_are_met(rt: HostRuntime) -> Result<(), Fail> {
         ("a", 0, Some(16385), b"", Err(FileFault::TooLong)),
         ("a", 0, Some(3), b"abc", Ok(3)),
     ];
-    try_parts(&rt, &mut files, &rows);
+    for (name, off, len, part, want) in rows {
+        assert_eq!(rt; files.write(name, off, len, part), want, "{name} {off}");
+    }
     assert_eq!(rt; files.read("a"), Some(b"abc".as_slice()));
     Ok(())
 }
