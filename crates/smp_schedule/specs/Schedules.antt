@@ -1,5 +1,5 @@
 -- A schedule: an optional flash line and events, one a line.
-use Rattle.std.specs.Prelude.{◌≡◌, ◌+◌, ◌<◌, ◌^◌, length, ℕ, suc, nat_lt, Bool, if◌then◌else◌, List, [], ◌∷◌, ◌++◌, Option, Some, None, Result, Ok, Err}
+use Rattle.std.specs.Prelude.{◌≡◌, ◌+◌, ◌<◌, ◌^◌, length, ℕ, suc, nat_lt, if◌then◌else◌, List, [], ◌∷◌, ◌++◌, Option, Some, None, Result, Ok, Err}
 use Rattle.smp_schedule.specs.declared.event.Event.{Event}
 use Rattle.smp_schedule.specs.declared.event.Event.TheVariants as events
 use Rattle.smp_schedule.specs.declared.flash_line.FlashLine.{FlashLine}

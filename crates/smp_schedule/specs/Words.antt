@@ -1,6 +1,6 @@
 -- The words of a schedule: what each spells. A word that is a name, a number or one of a table is spelled in one way; the digits
 -- of hex may be in either case.
-use Rattle.std.specs.Prelude.{Bool, true, ◌==◌, ◌&&◌, not, ℕ, nat_le, if◌then◌else◌, List, [], ◌∷◌, length, Option, Some, None, codes, find}
+use Rattle.std.specs.Prelude.{Bool, ◌==◌, ◌&&◌, not, ℕ, nat_le, if◌then◌else◌, List, [], ◌∷◌, length, Option, Some, None, codes, find}
 use Rattle.std.specs.List.{list_all}
 use Rattle.std.specs.Option.{option_and_then}
 use Rattle.std.specs.Result.{result_ok}
