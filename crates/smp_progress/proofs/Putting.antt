@@ -10,7 +10,7 @@ use Rattle.smp_flash.specs.declared.geometry.Geometry.{Geometry}
 use Rattle.smp_flash.specs.declared.layout.Layout.{Layout}
 use Rattle.smp_flash.specs.declared.layout.BankPlace.{BankPlace}
 use Rattle.smp_flash.proofs.Telling.{Told-with, Told-map, Told-after}
-use Rattle.smp_gate.specs.Newest.{just, content_of, Added, SameOrAdded, SameOrThis}
+use Rattle.smp_gate.specs.Newest.{just, content_of, Added, OldOrNew, SameOrAdded, SameOrThis}
 use Rattle.smp_model.specs.declared.upload.Announcement.{Announcement}
 use Rattle.smp_progress.specs.Cells.{cell_length, entry_cell, After, HasRecord, OldOrThis, equal_digests, same_announcement, continues}
 use Rattle.smp_progress.specs.Record.{record_bytes, IsRecord}
@@ -109,3 +109,8 @@ pub some_body_holds : (layout : Layout) (entry : Record) (body : List ℕ) (plac
 some_body_holds layout entry body place size None at long is l held = tt
 some_body_holds layout entry body place size (Some y) at long is l held =
     body_holds layout entry body y is l (ap (λ (q : BankPlace). content_of q 8 y) (sym at) ∙ ap (λ (n : ℕ). content_of place n y) (sym long) ∙ held)
+
+-- what a bank of one place, age and body says, of equal ones
+pub told_body : (p q : BankPlace) (m n : ℕ) (b d : List ℕ) (x y : Option (List ℕ)) → p ≡ q → m ≡ n → b ≡ d
+    → Told (OldOrNew p (record { generation = m + 1; body = b })) x y → Told (OldOrNew q (record { generation = n + 1; body = d })) x y
+told_body p q m n b d x y place age body t = rw (sym place, sym age, sym body) t

@@ -149,6 +149,9 @@ impl Progress {
         ensures cell_changes { appends self.old entry.now ≡ true → ChangesAtMost 2 0 (F.state flash.old).changes (F.state flash.new).changes }
         ensures cell_reads { appends self.old entry.now ≡ true → ReadsAtMost 0 (F.state flash.old).bytes_read (F.state flash.new).bytes_read }
         ensures newest { appends self.old entry.now ≡ true → Told (SameNewest (progress_of self.old.layout)) (F.state flash.old).bytes (F.state flash.new).bytes }
+
+        // A side that is replaced has the record as its body, of version 2.
+        ensures written { appends self.old entry.now ≡ false → Told (OldOrNew (progress_of self.old.layout) (record { generation = self.old.bank.generation + 1; body = record_bytes 2 (image_of self.old.layout) entry.now })) (F.state flash.old).bytes (F.state flash.new).bytes }
         ensures state { self.new ≡ after_put result entry.now self.old }
         ensures says { OnOk result (IfSome (F.state flash.new).bytes (ProgressSays self.new)) }
         ensures worn { IsErrOf result BankFault.Worn ↔ ((appends self.old entry.now ≡ false) × (self.old.bank.generation ≡ 2 ^ 32 - 1)) }
@@ -227,6 +230,7 @@ impl Progress {
         ensures changes { ChangesAtMost 2 8 (F.state flash.old).changes (F.state flash.new).changes }
         ensures either { Told (OldOrThis self.old.layout entry.now) (F.state flash.old).bytes (F.state flash.new).bytes }
         ensures ages { Told (AgesAtMost 1 (progress_of self.old.layout)) (F.state flash.old).bytes (F.state flash.new).bytes }
+        ensures written { Told (OldOrNew (progress_of self.old.layout) (record { generation = self.old.bank.generation + 1; body = record_bytes 2 (image_of self.old.layout) entry.now })) (F.state flash.old).bytes (F.state flash.new).bytes }
         ensures state { self.new ≡ after_renew result entry.now self.old }
         ensures says { OnOk result (IfSome (F.state flash.new).bytes (ProgressSays self.new)) }
         ensures worn { IsErrOf result BankFault.Worn ↔ (self.old.bank.generation ≡ 2 ^ 32 - 1) }

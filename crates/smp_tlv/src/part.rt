@@ -1,6 +1,6 @@
 //! A part of a flash as bytes, as a slot is one: that a flash meets what `Bytes` asks.
 
-ghost use Rattle.std.specs.Prelude.{◌≡◌, ◌+◌, ◌≤◌, ◌∷◌, [], length, IfSome};
+ghost use Rattle.std.specs.Prelude.{◌≡◌, ◌+◌, ◌^◌, ◌<◌, ◌≤◌, ◌∷◌, [], length, IfSome};
 ghost use Rattle.std.proofs.Props.{props};
 ghost use Rattle.std.specs.Option.{option_map, unwrap_or};
 ghost use Rattle.smp_flash.specs.Area.{AreBytes, area};

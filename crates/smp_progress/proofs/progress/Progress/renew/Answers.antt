@@ -9,7 +9,7 @@ use Rattle.smp_progress.specs.State.{ProgressState}
 use Rattle.smp_progress.specs.contracts.progress.Progress.{the_view}
 use Rattle.smp_progress.proofs.Lasting.{says_all}
 use Rattle.smp_progress.proofs.Paying.{aimed}
-use Rattle.smp_progress.proofs.Putting.{told_this, some_body_holds}
+use Rattle.smp_progress.proofs.Putting.{told_this, some_body_holds, told_body}
 use Rattle.smp_progress.proofs.progress.Progress.renew.Goals as goal
 
 pub returns-in-Ok-clause-either : goal.returns-in-Ok-clause-either
@@ -44,3 +44,21 @@ returns-in-Ok-clause-pays g c = λ aims.
     let at : c.self.inside.bank.place ≡ progress_of c.args.self.now.layout = c.self.invariant.0 ∙ ap progress_of layout in
     c.in-Ok.ensures.pays (aimed c.args.self.now.layout (g.F.Flash.state c.args.flash.now).geometry (g.F.Flash.state c.args.flash.now).aim c.self.inside.bank.place
     (c.regions_count_what_begins_there.ensures c.args.self.now.layout) c.requires.sizes at aims)
+
+pub returns-in-Ok-clause-written : goal.returns-in-Ok-clause-written
+returns-in-Ok-clause-written g c =
+    let layout : c.self.inside.layout ≡ c.args.self.now.layout = ap (λ (p : ProgressState). p.layout) c.self.view_is in
+    let at : c.self.inside.bank.place ≡ progress_of c.args.self.now.layout = c.self.invariant.0 ∙ ap progress_of layout in
+    let age : c.self.inside.bank.generation ≡ c.args.self.now.bank.generation = ap (λ (p : ProgressState). p.bank.generation) c.self.view_is in
+    let body : c.as_slice.result.now ≡ record_bytes 2 (image_of c.args.self.now.layout) c.args.entry.now =
+    c.as_slice.ensures.value ∙ c.put_record.ensures ∙ ap (λ (n : ℕ). record_bytes 2 n c.args.entry.now) (c.image_byte.ensures ∙ ap image_of layout) in
+    told_body _ _ _ _ _ _ _ _ at age body c.replace.ensures.old_or_new
+
+pub returns-in-Err-clause-written : goal.returns-in-Err-clause-written
+returns-in-Err-clause-written g c =
+    let layout : c.self.inside.layout ≡ c.args.self.now.layout = ap (λ (p : ProgressState). p.layout) c.self.view_is in
+    let at : c.self.inside.bank.place ≡ progress_of c.args.self.now.layout = c.self.invariant.0 ∙ ap progress_of layout in
+    let age : c.self.inside.bank.generation ≡ c.args.self.now.bank.generation = ap (λ (p : ProgressState). p.bank.generation) c.self.view_is in
+    let body : c.as_slice.result.now ≡ record_bytes 2 (image_of c.args.self.now.layout) c.args.entry.now =
+    c.as_slice.ensures.value ∙ c.put_record.ensures ∙ ap (λ (n : ℕ). record_bytes 2 n c.args.entry.now) (c.image_byte.ensures ∙ ap image_of layout) in
+    told_body _ _ _ _ _ _ _ _ at age body c.replace.ensures.old_or_new
