@@ -1,0 +1,6 @@
+pub mod Cells
+pub mod Changes
+pub mod Found
+pub mod Places
+pub mod Reading
+pub mod Saved
