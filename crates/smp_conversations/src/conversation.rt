@@ -74,7 +74,7 @@ fn add_hex(alloc: Global, out: &mut Vec<u8>, bytes: &[u8]) -> Result<(), AllocEr
     Ok(())
 }
 
-fn add_number(out: &mut Vec<u8>, number: u32) -> Result<(), AllocError> {
+fn add_number(out: &mut Vec<u8>, number: u64) -> Result<(), AllocError> {
     let mut buffer = Buffer::new();
     out.extend_from_slice(buffer.format(number).as_bytes())?;
     Ok(())
@@ -82,9 +82,9 @@ fn add_number(out: &mut Vec<u8>, number: u32) -> Result<(), AllocError> {
 
 /// Adds an upload as `OFFSET/LENGTH/DIGEST`.
 fn add_upload(alloc: Global, out: &mut Vec<u8>, upload: &Upload) -> Result<(), AllocError> {
-    add_number(out, upload.accepted.as_slice().len() as u32)?;
+    add_number(out, upload.accepted.as_slice().len() as u64)?;
     out.push(b'/')?;
-    add_number(out, upload.announcement.length)?;
+    add_number(out, u64::from(upload.announcement.length))?;
     out.push(b'/')?;
     match &upload.announcement.digest {
         Some(digest) => add_hex(alloc, out, digest),

@@ -1,6 +1,6 @@
 -- What a record that is put leaves of the bank.
 use Rattle.std.proofs.Common.{◌≡◌, inl, inr, ℕ, ◌+◌, Bool, true, false, Option, Some, None, List, [], ◌∷◌, ◌++◌, refl, sym, ◌∙◌, ap, subst, arith, ◌==◌}
-use Rattle.std.specs.Prelude.{◌&&◌, IfSome}
+use Rattle.std.specs.Prelude.{◌&&◌, IfSome, IsTrue, OnOk, Result, Ok, Err}
 use Rattle.std.specs.Str.{bytes_eq}
 use Rattle.std.proofs.lemmas.Bool.Decides.{nat_tests}
 use Rattle.std.proofs.lemmas.Slice.Eq.{bytes_eq-Decides}
@@ -14,7 +14,9 @@ use Rattle.smp_gate.specs.Newest.{just, content_of, Added, OldOrNew, SameOrAdded
 use Rattle.smp_model.specs.declared.upload.Announcement.{Announcement}
 use Rattle.smp_progress.specs.Cells.{cell_length, entry_cell, After, HasRecord, OldOrThis, equal_digests, same_announcement, continues}
 use Rattle.smp_progress.specs.Record.{record_bytes, IsRecord}
-use Rattle.smp_progress.specs.State.{ProgressState, ProgressSays}
+use Rattle.smp_gate.specs.Bank.{BankState}
+use Rattle.smp_gate.specs.declared.fault.BankFault.{BankFault}
+use Rattle.smp_progress.specs.State.{ProgressState, ProgressSays, appends, bank_after, after_put}
 use Rattle.smp_progress.specs.declared.record.Record.{Record}
 use Rattle.smp_progress.specs.declared.record.Record.TheVariants as records
 use Rattle.smp_progress.proofs.Reading.{after_more}
@@ -114,3 +116,12 @@ some_body_holds layout entry body place size (Some y) at long is l held =
 pub told_body : (p q : BankPlace) (m n : ℕ) (b d : List ℕ) (x y : Option (List ℕ)) → p ≡ q → m ≡ n → b ≡ d
     → Told (OldOrNew p (record { generation = m + 1; body = b })) x y → Told (OldOrNew q (record { generation = n + 1; body = d })) x y
 told_body p q m n b d x y place age body t = rw (sym place, sym age, sym body) t
+
+bank_sure : (b : Bool) (bank : BankState) → IsTrue bank.sure → IsTrue (bank_after b bank).sure
+bank_sure true bank sure = sure
+bank_sure false bank sure = sure
+
+-- a value that was sure is sure after Ok
+pub put_sure : {T : Type 0} (r : Result T BankFault) (entry : Record) (p q : ProgressState) → q ≡ after_put r entry p → IsTrue p.bank.sure → OnOk r (IsTrue q.bank.sure)
+put_sure (Ok x) entry p q is sure = subst (λ (k : ProgressState). IsTrue k.bank.sure) (sym is) (bank_sure (appends p entry) p.bank sure)
+put_sure (Err fault) entry p q is sure = tt
