@@ -1,5 +1,5 @@
 //! The settings of a device: the running ones, which requests read and change, and the saved ones, which a bank of two sides
-//! keeps on flash. A save leaves the old map or the running one saved, whatever is cut or fails.
+//! keeps on flash.
 //!
 //! The bank's body is the stored form of a map, and each of its cells, of 168 bytes, is one change behind it:
 //!
@@ -10,8 +10,8 @@
 //!          02, the length of the name, the name, 00 to the end                                        a setting was deleted
 //! ```
 //!
-//! A save in which one name differs appends one cell. One in which nothing differs does nothing, and every other one
-//! replaces the side by the stored form of the running map.
+//! There is no `save` yet. One in which one name differs will append one cell, one in which nothing differs will do nothing, and
+//! every other one will replace the side by the stored form of the running map.
 #![tactic(auto)]
 
 mod cell;

@@ -155,7 +155,7 @@ impl Settings {
         }
     }
 
-    /// Opens the bank again where it isn't sure.
+    /// Opens the bank again where it isn't sure. It is for `save`, which is not there yet.
     fn make_sure<F: Flash>(&mut self, flash: &mut F) -> Result<(), BankFault>
         requires layout { geometry_of self.old.layout ≡ (F.state flash.old).geometry }
         requires says { IfSome (F.state flash.old).bytes (SettingsSay self.old) }
@@ -183,7 +183,7 @@ impl Settings {
         }
     }
 
-    /// Replaces what the bank holds by the stored form of the running settings.
+    /// Replaces what the bank holds by the stored form of the running settings. It is for `save`, which is not there yet.
     fn replace<F: Flash>(&mut self, flash: &mut F) -> Result<(), BankFault>
         requires layout { geometry_of self.old.layout ≡ (F.state flash.old).geometry }
         requires says { IfSome (F.state flash.old).bytes (SettingsSay self.old) }
