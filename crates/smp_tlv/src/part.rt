@@ -1,20 +1,17 @@
 //! A part of a flash as bytes, as a slot is one: that a flash meets what `Bytes` asks.
 
-ghost use Rattle.std.specs.Prelude.{◌≡◌, ◌+◌, ◌^◌, ◌<◌, ◌≤◌, ◌∷◌, [], length, IfSome};
+ghost use Rattle.std.specs.Prelude.{◌≡◌, ◌+◌, ◌≤◌, ◌∷◌, [], length, IfSome};
 ghost use Rattle.std.proofs.Props.{props};
 ghost use Rattle.std.specs.Option.{option_map, unwrap_or};
 ghost use Rattle.smp_flash.specs.Area.{AreBytes, area};
 ghost use Rattle.smp_flash.specs.Geometry.{size_of};
 
 use crate::bytes::Bytes;
-use crate::tests::carry;
-use crate::{Finished, ImageFault, ImageInfo, check_hash, read_image};
-use sha2::{Digest, Sha256};
+use crate::{ImageFault, ImageInfo, check_hash, read_image};
 use smp_flash::{
     Arm, ArmKind, Flash, FlashFault, Geometry, Left, MemFlash, Region, sizes_of, write_part,
 };
 use smp_model::{Version, make_image};
-use std::alloc::{AllocError, Global};
 use std::test::Fail;
 
 #[derive(Drop)]
@@ -97,66 +94,5 @@ fn an_image_is_read_in_a_flash(rt: HostRuntime) -> Result<(), Fail> {
     }
     assert_eq!(rt; read_in(&mut flash, 8192, 79), Err(ImageFault::Tlvs));
     assert_eq!(rt; read_in(&mut flash, 0, 8192), Err(ImageFault::Magic));
-    Ok(())
-}
-
-/// What is known of the file that stands there, whose bytes came in pieces of 480.
-fn finish_in<F: Flash>(flash: &mut F, at: u32, bytes: &[u8]) -> Result<Finished, FlashFault>
-    requires inside { at + length bytes.now ≤ size_of (F.state flash.old).geometry }
-    requires small { length bytes.now < 2 ^ 32 }
-    requires stands { IfSome (F.state flash.old).bytes (λ held. area at (length bytes.now) held ≡ bytes.now) }
-{
-    let carried = carry(bytes, 0, 480);
-    let mut part = Part {
-        flash,
-        at,
-        size: bytes.len() as u32,
-    };
-    carried.finish(&mut part)
-}
-
-const LONG: Geometry = Geometry {
-    page: 4096,
-    unit: 8,
-    slot_pages: 64,
-    images: 1,
-};
-
-/// So many bytes, each the rest of its place by 251.
-fn payload(alloc: Global, count: u32) -> Result<Vec<u8>, AllocError> {
-    let mut bytes = Vec::new(alloc);
-    for i in 0..count {
-        bytes.push((i % 251) as u8)?;
-    }
-    Ok(bytes)
-}
-
-/// A file of 240072 bytes in a slot: nothing is read while it comes, and its header and TLVs alone at its end.
-#[test]
-fn a_long_file_is_not_read_again(rt: HostRuntime) -> Result<(), Fail> {
-    let alloc = rt.alloc();
-    let version = Version {
-        major: 1,
-        minor: 0,
-        revision: 0,
-        build: 0,
-    };
-    let payload = payload(alloc, 240_000)?;
-    let bytes = payload.as_slice();
-    let image = make_image(alloc, &bytes[..bytes.len().min(240_000)], version)?;
-    let digest = Sha256::digest(image.as_slice());
-    let mut flash = MemFlash::new(alloc, LONG)?;
-    let image = image.as_slice();
-    let image = &image[..image.len().min(240_072)];
-    assert_eq!(rt; write_part(&mut flash, 262_144, image), Ok(()));
-    let finished = finish_in(&mut flash, 262_144, image);
-    assert_eq!(rt; flash.read_bytes(), 72);
-    match finished {
-        Ok(finished) => {
-            assert!(rt; finished.digest == digest);
-            assert!(rt; finished.image.is_some());
-        }
-        Err(fault) => assert!(rt; false, "{fault:?}"),
-    }
     Ok(())
 }

@@ -598,7 +598,7 @@ fn an_off_holder_answers_off(rt: HostRuntime) -> Result<(), Fail> {
 }
 
 /// The file of these bytes: first so many of them, then pieces of that size.
-pub(crate) fn carry(bytes: &[u8], first: usize, size: usize) -> Carried
+fn carry(bytes: &[u8], first: usize, size: usize) -> Carried
     ensures { Carries result bytes.now }
 {
     let mut carried = Carried::new();
@@ -612,9 +612,9 @@ pub(crate) fn carry(bytes: &[u8], first: usize, size: usize) -> Carried
     carried
 }
 
-/// What is known of the first 100000 of these bytes, however they came.
+/// What is known of the first 300000 of these bytes, however they came.
 fn finished(bytes: &[u8], first: usize, size: usize) -> Result<Finished, FlashFault> {
-    let bytes = &bytes[..bytes.len().min(100000)];
+    let bytes = &bytes[..bytes.len().min(300000)];
     let carried = carry(bytes, first, size);
     let mut b = Lent::new(bytes);
     carried.finish(&mut b)
@@ -770,6 +770,37 @@ fn a_carried_file_is_not_read_again(rt: HostRuntime) -> Result<(), Fail> {
             Err(fault) => assert_eq!(rt; Err(fault), wanted),
         }
         assert_eq!(rt; (b.reads, b.asked), (reads, asked));
+    }
+    Ok(())
+}
+
+/// So many bytes.
+fn long_payload(alloc: Global) -> Result<Vec<u8>, AllocError> {
+    let mut payload = Vec::new(alloc);
+    for i in 0..240_000u32 {
+        payload.push((i % 251) as u8)?;
+    }
+    Ok(payload)
+}
+
+#[test]
+fn a_long_file_is_carried_in_pieces_of_480(rt: HostRuntime) -> Result<(), Fail> {
+    let payload = long_payload(rt.alloc())?;
+    let version = Version {
+        major: 1,
+        minor: 0,
+        revision: 0,
+        build: 0,
+    };
+    let bytes = payload.as_slice();
+    let image = make_image(rt.alloc(), &bytes[..bytes.len().min(240_000)], version)?;
+    assert_eq!(rt; image.as_slice().len(), 240_072);
+    match finished(image.as_slice(), 0, 480) {
+        Ok(finished) => {
+            assert!(rt; finished.digest == Sha256::digest(image.as_slice()));
+            assert!(rt; finished.image.is_some());
+        }
+        Err(fault) => assert!(rt; false, "{fault:?}"),
     }
     Ok(())
 }
