@@ -1,5 +1,6 @@
 -- The pages that bytes enter and begin, one page after the other.
-use Rattle.std.proofs.Common.{◌≡◌, ◌⊎◌, inl, inr, ℕ, zero, suc, ◌+◌, ◌-◌, ◌*◌, ◌/◌, ◌%◌, ◌<◌, ◌≤◌, Option, refl, sym, ◌∙◌, ap, subst, arith}
+use Rattle.std.proofs.Common.{◌≡◌, ◌⊎◌, inl, inr, ℕ, zero, suc, ◌+◌, ◌-◌, ◌*◌, ◌/◌, ◌%◌, ◌<◌, ◌≤◌, Option, Some, None, List, refl, sym, ◌∙◌, ap, subst, arith}
+use Rattle.std.specs.Prelude.{IfSome}
 use Rattle.smp_flash.specs.Calls.{ChangesAtMost, ReadsAtMost}
 use Rattle.smp_flash.specs.Geometry.{IsPage, room}
 use Rattle.smp_flash.specs.State.{Changes}
@@ -152,3 +153,15 @@ changes_in_slot page s at n p q is begins f =
 
 pub reads_in_slot : (page s at n : ℕ) (p q : Option ℕ) → IsPage page → s % page ≡ 0 → ReadsAtMost (begun page (s + at) n * page) p q → ReadsAtMost (begun page at n * page) p q
 reads_in_slot page s at n p q is begins f = subst (λ (k : ℕ). ReadsAtMost (k * page) p q) (begun_in_slot page s at n is begins) f
+
+-- writes behind erases that depend on what was held
+pub erases_then : (x : Option (List ℕ)) (n : ℕ) (f : List ℕ → ℕ) (p q r : Option Changes) → IfSome x (λ held. ChangesAtMost 0 (f held) p q) → ChangesAtMost n 0 q r → IfSome x (λ held. ChangesAtMost n (f held) p r)
+erases_then None n f p q r a b = tt
+erases_then (Some held) n f p q r a b =
+    let e : f held + 0 ≡ f held = omega arith in
+    let w : 0 + n ≡ n = omega arith in
+    subst (λ (k : ℕ). ChangesAtMost n k p r) e (subst (λ (k : ℕ). ChangesAtMost k (f held + 0) p r) w (changes_add 0 n (f held) 0 p q r a b))
+
+pub erases_more : (x : Option (List ℕ)) (m n : ℕ) (f : List ℕ → ℕ) (p q : Option Changes) → m ≤ n → IfSome x (λ held. ChangesAtMost m (f held) p q) → IfSome x (λ held. ChangesAtMost n (f held) p q)
+erases_more None m n f p q le a = tt
+erases_more (Some held) m n f p q le a = changes_more m n (f held) (f held) p q le (omega arith) a

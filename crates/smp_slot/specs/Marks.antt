@@ -34,3 +34,8 @@ mark_in slot bytes = mark_by (is_marked slot bytes) (is_flagged slot bytes)
 -- the slot has this mark or none
 abbrev pub MarkOrNone : Area → Mark → List ℕ → Type 0
 MarkOrNone slot mark bytes = (mark_in slot bytes ≡ None) ⊎ (mark_in slot bytes ≡ Some mark)
+
+-- the writes of a mark
+abbrev pub writes_of : Mark → ℕ
+writes_of Test = 1
+writes_of Permanent = 2

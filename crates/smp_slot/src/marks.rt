@@ -1,11 +1,11 @@
 // The marks at a slot's end: MCUboot's trailer.
 ghost use Rattle.std.specs.Prelude.{◌≡◌, ◌+◌, ◌-◌, ◌<◌, ◌≤◌, ◌∷◌, [], length, take, drop, true, false, None, Some, IsTrue, OnOk, IfOk, IfSome};
 ghost use Rattle.std.specs.Str.{bytes_eq};
-ghost use Rattle.smp_flash.specs.Area.{area, blank, spot, Holds, Fades, Erased, Told};
+ghost use Rattle.smp_flash.specs.Area.{area, blank, dirty, spot, Holds, Fades, Erased, Told};
 ghost use Rattle.smp_flash.specs.Calls.{Calls, ReadsAtMost, ChangesAtMost, Smaller};
 ghost use Rattle.smp_flash.specs.Region.{counts};
 ghost use Rattle.smp_flash.specs.State.{ended};
-ghost use Rattle.smp_slot.specs.Marks.{trailer_magic, flag_bytes, is_flagged, mark_by, mark_in, MarkOrNone};
+ghost use Rattle.smp_slot.specs.Marks.{trailer_magic, flag_bytes, writes_of, is_flagged, mark_by, mark_in, MarkOrNone};
 ghost use Rattle.smp_slot.specs.Slots.{IsSlot, last_page};
 
 use smp_flash::{Area, CallFault, Flash, clear_page, read_part, sizes_of, write_part};
@@ -79,6 +79,7 @@ fn clear_end<F: Flash>(flash: &mut F, slot: Area) -> Result<(), CallFault>
     requires { IsSlot slot (F.state flash.old).geometry }
     ensures calls { Calls (spot (last_page slot (F.state flash.old).geometry) (F.state flash.old).geometry.page) (ended result) (F.state flash.old) (F.state flash.new) }
     ensures changes { ChangesAtMost 0 1 (F.state flash.old).changes (F.state flash.new).changes }
+    ensures erases { IfSome (F.state flash.old).bytes (λ held. ChangesAtMost 0 (dirty (F.state flash.old).geometry.page (area (last_page slot (F.state flash.old).geometry) (F.state flash.old).geometry.page held)) (F.state flash.old).changes (F.state flash.new).changes) }
     ensures fades { Told (Fades (last_page slot (F.state flash.old).geometry) (F.state flash.old).geometry.page) (F.state flash.old).bytes (F.state flash.new).bytes }
     ensures erased { OnOk result (Told (Erased (last_page slot (F.state flash.old).geometry) (F.state flash.old).geometry.page) (F.state flash.old).bytes (F.state flash.new).bytes) }
 {
@@ -120,6 +121,9 @@ pub fn confirm<F: Flash>(flash: &mut F, slot: Area) -> Result<(), CallFault>
     requires free { IfSome (F.state flash.old).bytes (λ held. is_flagged slot held ≡ false) }
     ensures calls { Calls (spot (last_page slot (F.state flash.old).geometry) (F.state flash.old).geometry.page) (ended result) (F.state flash.old) (F.state flash.new) }
     ensures changes { ChangesAtMost 1 1 (F.state flash.old).changes (F.state flash.new).changes }
+
+    // A last page that is FF is not erased again.
+    ensures erases { IfSome (F.state flash.old).bytes (λ held. ChangesAtMost 1 (dirty (F.state flash.old).geometry.page (area (last_page slot (F.state flash.old).geometry) (F.state flash.old).geometry.page held)) (F.state flash.old).changes (F.state flash.new).changes) }
     ensures ok { OnOk result (IfSome (F.state flash.new).bytes (λ held. is_flagged slot held ≡ true)) }
     ensures pays { OnOk result (counts (F.state flash.old).geometry (F.state flash.old).aim (slot.at + slot.length - 24) ≡ true → Smaller (F.state flash.old).patience (F.state flash.new).patience) }
 {
@@ -135,7 +139,7 @@ fn write_mark<F: Flash>(flash: &mut F, slot: Area, mark: Mark) -> Result<(), Cal
     requires flag { IfSome (F.state flash.old).bytes (λ held. area (slot.at + slot.length - 24) 8 held ≡ blank 8) }
     requires magic { IfSome (F.state flash.old).bytes (λ held. area (slot.at + slot.length - 16) 16 held ≡ blank 16) }
     ensures calls { Calls (spot (slot.at + slot.length - 24) 24) (ended result) (F.state flash.old) (F.state flash.new) }
-    ensures changes { ChangesAtMost 2 0 (F.state flash.old).changes (F.state flash.new).changes }
+    ensures changes { ChangesAtMost (writes_of mark) 0 (F.state flash.old).changes (F.state flash.new).changes }
     ensures either { IfSome (F.state flash.new).bytes (MarkOrNone slot mark) }
     ensures ok { OnOk result (IfSome (F.state flash.new).bytes (λ held. mark_in slot held ≡ Some mark)) }
     ensures pays { OnOk result (counts (F.state flash.old).geometry (F.state flash.old).aim (slot.at + slot.length - 16) ≡ true → Smaller (F.state flash.old).patience (F.state flash.new).patience) }
@@ -155,7 +159,10 @@ pub fn mark<F: Flash>(flash: &mut F, slot: Area, mark: Mark) -> Result<(), CallF
     requires slot { IsSlot slot (F.state flash.old).geometry }
     requires free { IfSome (F.state flash.old).bytes (λ held. mark_in slot held ≡ None) }
     ensures calls { Calls (spot (last_page slot (F.state flash.old).geometry) (F.state flash.old).geometry.page) (ended result) (F.state flash.old) (F.state flash.new) }
-    ensures changes { ChangesAtMost 2 1 (F.state flash.old).changes (F.state flash.new).changes }
+    ensures changes { ChangesAtMost (writes_of mark) 1 (F.state flash.old).changes (F.state flash.new).changes }
+
+    // A last page that is FF is not erased again.
+    ensures erases { IfSome (F.state flash.old).bytes (λ held. ChangesAtMost (writes_of mark) (dirty (F.state flash.old).geometry.page (area (last_page slot (F.state flash.old).geometry) (F.state flash.old).geometry.page held)) (F.state flash.old).changes (F.state flash.new).changes) }
     ensures either { IfSome (F.state flash.new).bytes (MarkOrNone slot mark) }
     ensures ok { OnOk result (IfSome (F.state flash.new).bytes (λ held. mark_in slot held ≡ Some mark)) }
     ensures pays { OnOk result (counts (F.state flash.old).geometry (F.state flash.old).aim (slot.at + slot.length - 16) ≡ true → Smaller (F.state flash.old).patience (F.state flash.new).patience) }

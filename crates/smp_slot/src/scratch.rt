@@ -1,6 +1,6 @@
 // A page's bytes before a place are moved to the scratch page and back.
 ghost use Rattle.std.specs.Prelude.{◌≡◌, ◌+◌, ◌-◌, ◌<◌, ◌≤◌, ◌%◌, [], ◌∷◌, length, OnOk, IfSome};
-ghost use Rattle.smp_flash.specs.Area.{area, blank, spot, Keeps, Told};
+ghost use Rattle.smp_flash.specs.Area.{area, blank, dirty, spot, Keeps, Told};
 ghost use Rattle.smp_flash.specs.Calls.{Calls, ReadsAtMost, ChangesAtMost};
 ghost use Rattle.smp_flash.specs.Geometry.{size_of, tail, IsUnit, IsPage};
 ghost use Rattle.smp_flash.specs.Layout.{geometry_of, scratch_of, area_spot};
@@ -56,6 +56,7 @@ fn copy_out<F: Flash>(
     requires inside { scratch + page ≤ size_of (F.state flash.old).geometry }
     ensures calls { Calls ((from, page) ∷ (scratch, page) ∷ []) (ended result) (F.state flash.old) (F.state flash.new) }
     ensures changes { ChangesAtMost 1 1 (F.state flash.old).changes (F.state flash.new).changes }
+    ensures erases { IfSome (F.state flash.old).bytes (λ held. ChangesAtMost 1 (dirty page (area scratch page held)) (F.state flash.old).changes (F.state flash.new).changes) }
     ensures keeps { Told (Keeps (spot scratch page)) (F.state flash.old).bytes (F.state flash.new).bytes }
     ensures ok { OnOk result (Told (Moved from scratch count (page - count)) (F.state flash.old).bytes (F.state flash.new).bytes) }
 {
@@ -123,6 +124,9 @@ pub fn to_scratch<F: Flash>(
     requires inside { at + (geometry_of layout.now).page ≤ slot.length }
     ensures calls { Calls (moved_spots layout.now slot at) (ended result) (F.state flash.old) (F.state flash.new) }
     ensures changes { ChangesAtMost 1 1 (F.state flash.old).changes (F.state flash.new).changes }
+
+    // A scratch page that is FF is not erased again.
+    ensures erases { IfSome (F.state flash.old).bytes (λ held. ChangesAtMost 1 (dirty (geometry_of layout.now).page (area (scratch_of layout.now).at (geometry_of layout.now).page held)) (F.state flash.old).changes (F.state flash.new).changes) }
     ensures keeps { Told (Keeps (area_spot (scratch_of layout.now) ∷ [])) (F.state flash.old).bytes (F.state flash.new).bytes }
     ensures ok { OnOk result (Told (Moved (page_begin layout.now slot at) (scratch_of layout.now).at (at % (geometry_of layout.now).page) (tail (geometry_of layout.now).page at)) (F.state flash.old).bytes (F.state flash.new).bytes) }
 {

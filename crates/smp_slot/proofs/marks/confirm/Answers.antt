@@ -1,6 +1,9 @@
-use Rattle.std.proofs.Common.{◌≤◌, arith}
+use Rattle.std.proofs.Common.{◌+◌, ◌-◌, ◌≤◌, arith}
 use Rattle.smp_flash.proofs.Sizes.{regular}
 use Rattle.smp_slot.proofs.Ending.{end_placed, told_blank, end_Calls}
+use Rattle.std.proofs.lemmas.Result.{on_ok_weaker}
+use Rattle.smp_slot.proofs.Counting.{erases_then, erases_more}
+use Rattle.smp_slot.proofs.Paying.{then_pays}
 use Rattle.smp_slot.proofs.marks.confirm.Goals as goal
 
 pub write_flag-requires-clause-clean : goal.write_flag-requires-clause-clean
@@ -14,3 +17,14 @@ returns-in-Ok-clause-calls g c =
     let sizes = (g.F.Flash.state c.args.flash.now).geometry in
     let p = end_placed c.args.slot sizes (regular sizes (g.met.F.Flash.lawful c.args.flash.now)) c.requires.slot in
     end_Calls c.args.slot sizes 24 8 _ _ _ _ p (omega arith) (omega arith) c.in-Ok.ensures.calls c.write_flag.ensures.calls
+
+pub returns-in-Ok-clause-erases : goal.returns-in-Ok-clause-erases
+returns-in-Ok-clause-erases g c = erases_then (g.F.Flash.state c.args.flash.now).bytes 1 _ _ _ _ c.in-Ok.ensures.erases c.write_flag.ensures.changes
+
+pub returns-in-Err-clause-erases : goal.returns-in-Err-clause-erases
+returns-in-Err-clause-erases g c = erases_more (g.F.Flash.state c.args.flash.now).bytes 0 1 _ _ _ (omega arith) c.clear_end.ensures.erases
+
+pub returns-in-Ok-clause-pays : goal.returns-in-Ok-clause-pays
+returns-in-Ok-clause-pays g c =
+    on_ok_weaker c.write_flag.result
+    (λ pays counted. then_pays (c.args.slot.at + c.args.slot.length - 24) (g.F.Flash.state c.args.flash.now) (g.F.Flash.state c.clear_end.new.flash) (g.F.Flash.state c.write_flag.new.flash) c.in-Ok.ensures.calls.passes pays counted) c.write_flag.ensures.pays

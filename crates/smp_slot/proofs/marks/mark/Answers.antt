@@ -1,6 +1,10 @@
-use Rattle.std.proofs.Common.{◌≤◌, arith}
+use Rattle.std.proofs.Common.{◌+◌, ◌-◌, ◌≤◌, arith}
 use Rattle.smp_flash.proofs.Sizes.{regular}
 use Rattle.smp_slot.proofs.Ending.{end_placed, told_blank, told_free, end_Calls}
+use Rattle.smp_slot.specs.Marks.{writes_of}
+use Rattle.std.proofs.lemmas.Result.{on_ok_weaker}
+use Rattle.smp_slot.proofs.Counting.{erases_then, erases_more}
+use Rattle.smp_slot.proofs.Paying.{then_pays}
 use Rattle.smp_slot.proofs.marks.mark.Goals as goal
 
 pub write_mark-requires-clause-flag : goal.write_mark-requires-clause-flag
@@ -23,3 +27,14 @@ returns-in-Ok-clause-calls g c =
 
 pub returns-in-Err-clause-either : goal.returns-in-Err-clause-either
 returns-in-Err-clause-either g c = told_free c.args.slot (g.F.Flash.state c.args.flash.now).geometry c.args.mark _ _ c.requires.free c.clear_end.ensures.fades
+
+pub returns-in-Ok-clause-erases : goal.returns-in-Ok-clause-erases
+returns-in-Ok-clause-erases g c = erases_then (g.F.Flash.state c.args.flash.now).bytes (writes_of c.args.mark) _ _ _ _ c.in-Ok.ensures.erases c.write_mark.ensures.changes
+
+pub returns-in-Err-clause-erases : goal.returns-in-Err-clause-erases
+returns-in-Err-clause-erases g c = erases_more (g.F.Flash.state c.args.flash.now).bytes 0 (writes_of c.args.mark) _ _ _ (omega arith) c.clear_end.ensures.erases
+
+pub returns-in-Ok-clause-pays : goal.returns-in-Ok-clause-pays
+returns-in-Ok-clause-pays g c =
+    on_ok_weaker c.write_mark.result
+    (λ pays counted. then_pays (c.args.slot.at + c.args.slot.length - 16) (g.F.Flash.state c.args.flash.now) (g.F.Flash.state c.clear_end.new.flash) (g.F.Flash.state c.write_mark.new.flash) c.in-Ok.ensures.calls.passes pays counted) c.write_mark.ensures.pays
