@@ -1,7 +1,7 @@
 -- The marks at a slot's end: MCUboot's trailer.
-use Rattle.std.specs.Prelude.{◌≡◌, ◌⊎◌, ◌+◌, ◌-◌, ℕ, Bool, true, false, List, [], ◌∷◌, Option, Some, None}
+use Rattle.std.specs.Prelude.{◌≡◌, ◌⊎◌, ◌+◌, ◌-◌, ℕ, Bool, true, false, List, [], ◌∷◌, ◌++◌, Option, Some, None}
 use Rattle.std.specs.Str.{bytes_eq}
-use Rattle.smp_flash.specs.Area.{area}
+use Rattle.smp_flash.specs.Area.{area, blank}
 use Rattle.smp_flash.specs.declared.layout.Area.{Area}
 use Rattle.smp_model.specs.declared.upload.Mark.{Mark}
 use Rattle.smp_model.specs.declared.upload.Mark.TheVariants.{Test, Permanent}
@@ -39,3 +39,19 @@ MarkOrNone slot mark bytes = (mark_in slot bytes ≡ None) ⊎ (mark_in slot byt
 abbrev pub writes_of : Mark → ℕ
 writes_of Test = 1
 writes_of Permanent = 2
+
+-- how many of a slot's last bytes are written for a mark, and what they are, with the bytes of a flag
+abbrev pub mark_size : Mark → ℕ
+mark_size Test = 16
+mark_size Permanent = 24
+
+abbrev pub mark_end : Mark → List ℕ
+mark_end Test = blank 8 ++ trailer_magic
+mark_end Permanent = flag_bytes ++ trailer_magic
+
+-- the last page of a slot that was marked, and of one that was confirmed: these bytes, and all others are FF
+abbrev pub marked_page : ℕ → Mark → List ℕ
+marked_page page mark = blank (page - 24) ++ mark_end mark
+
+abbrev pub confirmed_page : ℕ → List ℕ
+confirmed_page page = blank (page - 24) ++ (flag_bytes ++ blank 16)

@@ -1,11 +1,12 @@
 // The marks at a slot's end: MCUboot's trailer.
 ghost use Rattle.std.specs.Prelude.{◌≡◌, ◌+◌, ◌-◌, ◌<◌, ◌≤◌, ◌∷◌, [], length, take, drop, true, false, None, Some, IsTrue, OnOk, IfOk, IfSome};
 ghost use Rattle.std.specs.Str.{bytes_eq};
-ghost use Rattle.smp_flash.specs.Area.{area, blank, dirty, spot, Holds, Fades, Erased, Told};
+ghost use Rattle.smp_flash.specs.Area.{area, blank, dirty, spot, Keeps, Holds, Fades, Erased, Told};
 ghost use Rattle.smp_flash.specs.Calls.{Calls, ReadsAtMost, ChangesAtMost, Smaller};
 ghost use Rattle.smp_flash.specs.Region.{counts};
 ghost use Rattle.smp_flash.specs.State.{ended};
-ghost use Rattle.smp_slot.specs.Marks.{trailer_magic, flag_bytes, writes_of, is_flagged, mark_by, mark_in, MarkOrNone};
+ghost use Rattle.smp_slot.specs.Marks.{trailer_magic, flag_bytes, writes_of, is_flagged, mark_by, mark_in, MarkOrNone, mark_size, mark_end, marked_page, confirmed_page};
+ghost use Rattle.smp_slot.specs.Order.{ErasedThenWritten};
 ghost use Rattle.smp_slot.specs.Slots.{IsSlot, last_page};
 
 use smp_flash::{Area, CallFault, Flash, clear_page, read_part, sizes_of, write_part};
@@ -78,6 +79,7 @@ pub fn confirmed<F: Flash>(flash: &mut F, slot: Area) -> Result<bool, CallFault>
 fn clear_end<F: Flash>(flash: &mut F, slot: Area) -> Result<(), CallFault>
     requires { IsSlot slot (F.state flash.old).geometry }
     ensures calls { Calls (spot (last_page slot (F.state flash.old).geometry) (F.state flash.old).geometry.page) (ended result) (F.state flash.old) (F.state flash.new) }
+    ensures reads { ReadsAtMost (F.state flash.old).geometry.page (F.state flash.old).bytes_read (F.state flash.new).bytes_read }
     ensures changes { ChangesAtMost 0 1 (F.state flash.old).changes (F.state flash.new).changes }
     ensures erases { IfSome (F.state flash.old).bytes (λ held. ChangesAtMost 0 (dirty (F.state flash.old).geometry.page (area (last_page slot (F.state flash.old).geometry) (F.state flash.old).geometry.page held)) (F.state flash.old).changes (F.state flash.new).changes) }
     ensures fades { Told (Fades (last_page slot (F.state flash.old).geometry) (F.state flash.old).geometry.page) (F.state flash.old).bytes (F.state flash.new).bytes }
@@ -93,6 +95,7 @@ fn write_flag<F: Flash>(flash: &mut F, slot: Area) -> Result<(), CallFault>
     requires slot { IsSlot slot (F.state flash.old).geometry }
     requires clean { IfSome (F.state flash.old).bytes (λ held. area (slot.at + slot.length - 24) 8 held ≡ blank 8) }
     ensures calls { Calls (spot (slot.at + slot.length - 24) 8) (ended result) (F.state flash.old) (F.state flash.new) }
+    ensures reads { ReadsAtMost 0 (F.state flash.old).bytes_read (F.state flash.new).bytes_read }
     ensures changes { ChangesAtMost 1 0 (F.state flash.old).changes (F.state flash.new).changes }
     ensures ok { OnOk result (Told (Holds (slot.at + slot.length - 24) flag_bytes) (F.state flash.old).bytes (F.state flash.new).bytes) }
     ensures pays { OnOk result (counts (F.state flash.old).geometry (F.state flash.old).aim (slot.at + slot.length - 24) ≡ true → Smaller (F.state flash.old).patience (F.state flash.new).patience) }
@@ -106,6 +109,7 @@ fn write_magic<F: Flash>(flash: &mut F, slot: Area) -> Result<(), CallFault>
     requires slot { IsSlot slot (F.state flash.old).geometry }
     requires clean { IfSome (F.state flash.old).bytes (λ held. area (slot.at + slot.length - 16) 16 held ≡ blank 16) }
     ensures calls { Calls (spot (slot.at + slot.length - 16) 16) (ended result) (F.state flash.old) (F.state flash.new) }
+    ensures reads { ReadsAtMost 0 (F.state flash.old).bytes_read (F.state flash.new).bytes_read }
     ensures changes { ChangesAtMost 1 0 (F.state flash.old).changes (F.state flash.new).changes }
     ensures ok { OnOk result (Told (Holds (slot.at + slot.length - 16) trailer_magic) (F.state flash.old).bytes (F.state flash.new).bytes) }
     ensures pays { OnOk result (counts (F.state flash.old).geometry (F.state flash.old).aim (slot.at + slot.length - 16) ≡ true → Smaller (F.state flash.old).patience (F.state flash.new).patience) }
@@ -115,16 +119,20 @@ fn write_magic<F: Flash>(flash: &mut F, slot: Area) -> Result<(), CallFault>
 }
 
 /// Confirms the image of a primary slot, which is not confirmed: the last page is erased where it is not all FF, and the flag is
-/// written. After a fault every byte before the last page is as before, and the slot is confirmed or not.
+/// written: after Ok all other bytes of that page are FF. After a fault every byte before the last page is as before, each byte
+/// of it is as it was or FF, or all of it is FF but for what stands of the flag. The page is read once.
 pub fn confirm<F: Flash>(flash: &mut F, slot: Area) -> Result<(), CallFault>
     requires slot { IsSlot slot (F.state flash.old).geometry }
     requires free { IfSome (F.state flash.old).bytes (λ held. is_flagged slot held ≡ false) }
     ensures calls { Calls (spot (last_page slot (F.state flash.old).geometry) (F.state flash.old).geometry.page) (ended result) (F.state flash.old) (F.state flash.new) }
+    ensures reads { ReadsAtMost (F.state flash.old).geometry.page (F.state flash.old).bytes_read (F.state flash.new).bytes_read }
     ensures changes { ChangesAtMost 1 1 (F.state flash.old).changes (F.state flash.new).changes }
 
     // A last page that is FF is not erased again.
     ensures erases { IfSome (F.state flash.old).bytes (λ held. ChangesAtMost 1 (dirty (F.state flash.old).geometry.page (area (last_page slot (F.state flash.old).geometry) (F.state flash.old).geometry.page held)) (F.state flash.old).changes (F.state flash.new).changes) }
+    ensures left { Told (ErasedThenWritten (last_page slot (F.state flash.old).geometry) (F.state flash.old).geometry.page (slot.at + slot.length - 24) 8) (F.state flash.old).bytes (F.state flash.new).bytes }
     ensures ok { OnOk result (IfSome (F.state flash.new).bytes (λ held. is_flagged slot held ≡ true)) }
+    ensures whole { OnOk result (IfSome (F.state flash.new).bytes (λ held. area (last_page slot (F.state flash.old).geometry) (F.state flash.old).geometry.page held ≡ confirmed_page (F.state flash.old).geometry.page)) }
     ensures pays { OnOk result (counts (F.state flash.old).geometry (F.state flash.old).aim (slot.at + slot.length - 24) ≡ true → Smaller (F.state flash.old).patience (F.state flash.new).patience) }
 {
     match clear_end(flash, slot) {
@@ -139,9 +147,12 @@ fn write_mark<F: Flash>(flash: &mut F, slot: Area, mark: Mark) -> Result<(), Cal
     requires flag { IfSome (F.state flash.old).bytes (λ held. area (slot.at + slot.length - 24) 8 held ≡ blank 8) }
     requires magic { IfSome (F.state flash.old).bytes (λ held. area (slot.at + slot.length - 16) 16 held ≡ blank 16) }
     ensures calls { Calls (spot (slot.at + slot.length - 24) 24) (ended result) (F.state flash.old) (F.state flash.new) }
+    ensures reads { ReadsAtMost 0 (F.state flash.old).bytes_read (F.state flash.new).bytes_read }
     ensures changes { ChangesAtMost (writes_of mark) 0 (F.state flash.old).changes (F.state flash.new).changes }
+    ensures keeps { Told (Keeps (spot (slot.at + slot.length - mark_size mark) (mark_size mark))) (F.state flash.old).bytes (F.state flash.new).bytes }
     ensures either { IfSome (F.state flash.new).bytes (MarkOrNone slot mark) }
     ensures ok { OnOk result (IfSome (F.state flash.new).bytes (λ held. mark_in slot held ≡ Some mark)) }
+    ensures holds { OnOk result (IfSome (F.state flash.new).bytes (λ held. area (slot.at + slot.length - 24) 24 held ≡ mark_end mark)) }
     ensures pays { OnOk result (counts (F.state flash.old).geometry (F.state flash.old).aim (slot.at + slot.length - 16) ≡ true → Smaller (F.state flash.old).patience (F.state flash.new).patience) }
 {
     match mark {
@@ -154,17 +165,22 @@ fn write_mark<F: Flash>(flash: &mut F, slot: Area, mark: Mark) -> Result<(), Cal
 }
 
 /// Marks a secondary slot, which is not pending: the last page is erased where it is not all FF, for a permanent mark the flag is
-/// written, and then the magic. After a fault every byte before the last page is as before, and the slot has this mark or none.
+/// written, and then the magic: after Ok all other bytes of that page are FF. After a fault every byte before the last page is as
+/// before, the slot has this mark or none, and each byte of the last page is as it was or FF, or all of it is FF but for what
+/// stands of the flag and the magic. The page is read once.
 pub fn mark<F: Flash>(flash: &mut F, slot: Area, mark: Mark) -> Result<(), CallFault>
     requires slot { IsSlot slot (F.state flash.old).geometry }
     requires free { IfSome (F.state flash.old).bytes (λ held. mark_in slot held ≡ None) }
     ensures calls { Calls (spot (last_page slot (F.state flash.old).geometry) (F.state flash.old).geometry.page) (ended result) (F.state flash.old) (F.state flash.new) }
+    ensures reads { ReadsAtMost (F.state flash.old).geometry.page (F.state flash.old).bytes_read (F.state flash.new).bytes_read }
     ensures changes { ChangesAtMost (writes_of mark) 1 (F.state flash.old).changes (F.state flash.new).changes }
 
     // A last page that is FF is not erased again.
     ensures erases { IfSome (F.state flash.old).bytes (λ held. ChangesAtMost (writes_of mark) (dirty (F.state flash.old).geometry.page (area (last_page slot (F.state flash.old).geometry) (F.state flash.old).geometry.page held)) (F.state flash.old).changes (F.state flash.new).changes) }
+    ensures left { Told (ErasedThenWritten (last_page slot (F.state flash.old).geometry) (F.state flash.old).geometry.page (slot.at + slot.length - mark_size mark) (mark_size mark)) (F.state flash.old).bytes (F.state flash.new).bytes }
     ensures either { IfSome (F.state flash.new).bytes (MarkOrNone slot mark) }
     ensures ok { OnOk result (IfSome (F.state flash.new).bytes (λ held. mark_in slot held ≡ Some mark)) }
+    ensures whole { OnOk result (IfSome (F.state flash.new).bytes (λ held. area (last_page slot (F.state flash.old).geometry) (F.state flash.old).geometry.page held ≡ marked_page (F.state flash.old).geometry.page mark)) }
     ensures pays { OnOk result (counts (F.state flash.old).geometry (F.state flash.old).aim (slot.at + slot.length - 16) ≡ true → Smaller (F.state flash.old).patience (F.state flash.new).patience) }
 {
     match clear_end(flash, slot) {

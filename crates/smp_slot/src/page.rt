@@ -1,6 +1,6 @@
 // A write within one page.
 ghost use Rattle.std.specs.Prelude.{◌≡◌, ◌+◌, ◌-◌, ◌<◌, ◌≤◌, ◌%◌, ◌++◌, length, take, true, OnOk, IfSome};
-ghost use Rattle.smp_flash.specs.Area.{area, blank, spot, Told};
+ghost use Rattle.smp_flash.specs.Area.{area, blank, dirty, spot, Told};
 ghost use Rattle.smp_flash.specs.Calls.{Calls, ReadsAtMost, ChangesAtMost, Smaller};
 ghost use Rattle.smp_flash.specs.Geometry.{size_of, IsPage, IsUnit};
 ghost use Rattle.smp_flash.specs.Region.{counts};
@@ -49,6 +49,7 @@ fn ready_page<F: Flash>(flash: &mut F, at: u32, room: u32, page: u32) -> Result<
     ensures inner_reads { room < page → ReadsAtMost 0 (F.state flash.old).bytes_read (F.state flash.new).bytes_read }
     ensures changes { ChangesAtMost 0 1 (F.state flash.old).changes (F.state flash.new).changes }
     ensures inner { room < page → ChangesAtMost 0 0 (F.state flash.old).changes (F.state flash.new).changes }
+    ensures erases { IfSome (F.state flash.old).bytes (λ held. ChangesAtMost 0 (dirty room (area at room held)) (F.state flash.old).changes (F.state flash.new).changes) }
     ensures ready { OnOk result (IfSome (F.state flash.new).bytes (λ held. area at room held ≡ blank room)) }
 {
     if room < page {
@@ -161,6 +162,7 @@ pub fn put_in_page<F: Flash>(
     ensures inner_reads { room < page → ReadsAtMost 0 (F.state flash.old).bytes_read (F.state flash.new).bytes_read }
     ensures changes { ChangesAtMost 1 1 (F.state flash.old).changes (F.state flash.new).changes }
     ensures inner { room < page → ChangesAtMost 1 0 (F.state flash.old).changes (F.state flash.new).changes }
+    ensures erases { IfSome (F.state flash.old).bytes (λ held. ChangesAtMost 1 (dirty room (area at room held)) (F.state flash.old).changes (F.state flash.new).changes) }
     ensures ok { OnOk result (Told (Laid at (room - length bytes.now) bytes.now) (F.state flash.old).bytes (F.state flash.new).bytes) }
     ensures pays { OnOk result (counts (F.state flash.old).geometry (F.state flash.old).aim at ≡ true → Smaller (F.state flash.old).patience (F.state flash.new).patience) }
 {

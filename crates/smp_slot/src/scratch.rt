@@ -28,6 +28,7 @@ fn copy_part<F: Flash>(
     requires whole { count % (F.state flash.old).geometry.unit ≡ 0 }
     requires clean { IfSome (F.state flash.old).bytes (λ held. area to page held ≡ blank page) }
     ensures calls { Calls ((from, page) ∷ (to, page) ∷ []) (ended result) (F.state flash.old) (F.state flash.new) }
+    ensures reads { ReadsAtMost count (F.state flash.old).bytes_read (F.state flash.new).bytes_read }
     ensures changes { ChangesAtMost 1 0 (F.state flash.old).changes (F.state flash.new).changes }
     ensures keeps { Told (Keeps (spot to page)) (F.state flash.old).bytes (F.state flash.new).bytes }
     ensures ok { OnOk result (Told (Moved from to count (page - count)) (F.state flash.old).bytes (F.state flash.new).bytes) }
@@ -55,6 +56,7 @@ fn copy_out<F: Flash>(
     requires apart { from + page ≤ scratch }
     requires inside { scratch + page ≤ size_of (F.state flash.old).geometry }
     ensures calls { Calls ((from, page) ∷ (scratch, page) ∷ []) (ended result) (F.state flash.old) (F.state flash.new) }
+    ensures reads { ReadsAtMost (page + count) (F.state flash.old).bytes_read (F.state flash.new).bytes_read }
     ensures changes { ChangesAtMost 1 1 (F.state flash.old).changes (F.state flash.new).changes }
     ensures erases { IfSome (F.state flash.old).bytes (λ held. ChangesAtMost 1 (dirty page (area scratch page held)) (F.state flash.old).changes (F.state flash.new).changes) }
     ensures keeps { Told (Keeps (spot scratch page)) (F.state flash.old).bytes (F.state flash.new).bytes }
@@ -91,6 +93,7 @@ fn copy_back<F: Flash>(
     requires apart { to + page ≤ scratch }
     requires inside { scratch + page ≤ size_of (F.state flash.old).geometry }
     ensures calls { Calls ((scratch, page) ∷ (to, page) ∷ []) (ended result) (F.state flash.old) (F.state flash.new) }
+    ensures reads { ReadsAtMost count (F.state flash.old).bytes_read (F.state flash.new).bytes_read }
     ensures changes { ChangesAtMost 1 1 (F.state flash.old).changes (F.state flash.new).changes }
     ensures keeps { Told (Keeps (spot to page)) (F.state flash.old).bytes (F.state flash.new).bytes }
     ensures ok { OnOk result (Told (Moved scratch to count (page - count)) (F.state flash.old).bytes (F.state flash.new).bytes) }
@@ -123,6 +126,9 @@ pub fn to_scratch<F: Flash>(
     requires place { at % (geometry_of layout.now).unit ≡ 0 }
     requires inside { at + (geometry_of layout.now).page ≤ slot.length }
     ensures calls { Calls (moved_spots layout.now slot at) (ended result) (F.state flash.old) (F.state flash.new) }
+
+    // The scratch page, to see whether it is FF, and the bytes that are copied.
+    ensures reads { ReadsAtMost ((geometry_of layout.now).page + at % (geometry_of layout.now).page) (F.state flash.old).bytes_read (F.state flash.new).bytes_read }
     ensures changes { ChangesAtMost 1 1 (F.state flash.old).changes (F.state flash.new).changes }
 
     // A scratch page that is FF is not erased again.
@@ -152,6 +158,7 @@ pub fn from_scratch<F: Flash>(
     requires place { at % (geometry_of layout.now).unit ≡ 0 }
     requires inside { at + (geometry_of layout.now).page ≤ slot.length }
     ensures calls { Calls (area_spot (scratch_of layout.now) ∷ (page_begin layout.now slot at, (geometry_of layout.now).page) ∷ []) (ended result) (F.state flash.old) (F.state flash.new) }
+    ensures reads { ReadsAtMost (at % (geometry_of layout.now).page) (F.state flash.old).bytes_read (F.state flash.new).bytes_read }
     ensures changes { ChangesAtMost 1 1 (F.state flash.old).changes (F.state flash.new).changes }
     ensures keeps { Told (Keeps (spot (page_begin layout.now slot at) (geometry_of layout.now).page)) (F.state flash.old).bytes (F.state flash.new).bytes }
     ensures ok { OnOk result (Told (Moved (scratch_of layout.now).at (page_begin layout.now slot at) (at % (geometry_of layout.now).page) (tail (geometry_of layout.now).page at)) (F.state flash.old).bytes (F.state flash.new).bytes) }

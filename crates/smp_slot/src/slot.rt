@@ -5,8 +5,9 @@ ghost use Rattle.smp_flash.specs.Calls.{Calls, Smaller, ReadsAtMost, ChangesAtMo
 ghost use Rattle.smp_flash.specs.Geometry.{size_of, IsPage, IsUnit, tail, room};
 ghost use Rattle.smp_flash.specs.Region.{counts};
 ghost use Rattle.smp_flash.specs.State.{ended};
-ghost use Rattle.smp_slot.specs.Costs.{entered, begun};
+ghost use Rattle.smp_slot.specs.Costs.{entered, begun, dirty_begun};
 ghost use Rattle.smp_slot.specs.Laid.{Laid};
+ghost use Rattle.smp_slot.specs.Order.{PutInOrder};
 ghost use Rattle.smp_slot.specs.Slots.{IsSlot};
 
 use crate::page::put_in_page;
@@ -41,7 +42,8 @@ fn least(room: u32, left: usize) -> usize
 /// filled up with FF. A page is erased before its first byte is written, where it is not all FF.
 ///
 /// The place begins a write unit, the bytes end before the slot's last page, and what follows the place in its page is FF.
-/// After a fault every byte before the place and behind the last page that the bytes enter is as before.
+/// After a fault some first bytes stand, to a page's end or none, and every byte before the place and behind the page that follows
+/// them is as before. A page that the bytes begin is read once, to see whether it is FF.
 pub fn put<F: Flash>(flash: &mut F, slot: Area, at: u32, bytes: &[u8]) -> Result<(), CallFault>
     requires slot { IsSlot slot (F.state flash.old).geometry }
     requires place { at % (F.state flash.old).geometry.unit ≡ 0 }
@@ -52,6 +54,10 @@ pub fn put<F: Flash>(flash: &mut F, slot: Area, at: u32, bytes: &[u8]) -> Result
 
     // One write for each page that the bytes enter, and at most one erase for each that they begin.
     ensures changes { ChangesAtMost (entered (F.state flash.old).geometry.page at (length bytes.now)) (begun (F.state flash.old).geometry.page at (length bytes.now)) (F.state flash.old).changes (F.state flash.new).changes }
+
+    // A page that is FF is not erased again.
+    ensures erases { IfSome (F.state flash.old).bytes (λ held. ChangesAtMost (entered (F.state flash.old).geometry.page at (length bytes.now)) (dirty_begun (F.state flash.old).geometry.page (slot.at + at) (length bytes.now) held) (F.state flash.old).changes (F.state flash.new).changes) }
+    ensures order { Told (PutInOrder (F.state flash.old).geometry.page (slot.at + at) bytes.now) (F.state flash.old).bytes (F.state flash.new).bytes }
     ensures ok { OnOk result (Told (Laid (slot.at + at) (tail (F.state flash.old).geometry.page (at + length bytes.now)) bytes.now) (F.state flash.old).bytes (F.state flash.new).bytes) }
     ensures pays { OnOk result (0 < length bytes.now → counts (F.state flash.old).geometry (F.state flash.old).aim (slot.at + at) ≡ true → Smaller (F.state flash.old).patience (F.state flash.new).patience) }
 {
@@ -78,6 +84,8 @@ fn put_pages<F: Flash>(
     ensures calls { Calls (spot at (length bytes.now + tail page (at + length bytes.now))) (ended result) (F.state flash.old) (F.state flash.new) }
     ensures reads { ReadsAtMost (begun page at (length bytes.now) * page) (F.state flash.old).bytes_read (F.state flash.new).bytes_read }
     ensures changes { ChangesAtMost (entered page at (length bytes.now)) (begun page at (length bytes.now)) (F.state flash.old).changes (F.state flash.new).changes }
+    ensures erases { IfSome (F.state flash.old).bytes (λ held. ChangesAtMost (entered page at (length bytes.now)) (dirty_begun page at (length bytes.now) held) (F.state flash.old).changes (F.state flash.new).changes) }
+    ensures order { Told (PutInOrder page at bytes.now) (F.state flash.old).bytes (F.state flash.new).bytes }
     ensures ok { OnOk result (Told (Laid at (tail page (at + length bytes.now)) bytes.now) (F.state flash.old).bytes (F.state flash.new).bytes) }
     ensures pays { OnOk result (0 < length bytes.now → counts (F.state flash.old).geometry (F.state flash.old).aim at ≡ true → Smaller (F.state flash.old).patience (F.state flash.new).patience) }
 {

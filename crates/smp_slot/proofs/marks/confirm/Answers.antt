@@ -4,6 +4,8 @@ use Rattle.smp_slot.proofs.Ending.{end_placed, told_blank, end_Calls}
 use Rattle.std.proofs.lemmas.Result.{on_ok_weaker}
 use Rattle.smp_slot.proofs.Counting.{erases_then, erases_more}
 use Rattle.smp_slot.proofs.Paying.{then_pays}
+use Rattle.smp_slot.proofs.LastPage.{told_written, told_faded, told_confirmed}
+use Rattle.smp_slot.specs.Slots.{last_page}
 use Rattle.smp_slot.proofs.marks.confirm.Goals as goal
 
 pub write_flag-requires-clause-clean : goal.write_flag-requires-clause-clean
@@ -28,3 +30,20 @@ pub returns-in-Ok-clause-pays : goal.returns-in-Ok-clause-pays
 returns-in-Ok-clause-pays g c =
     on_ok_weaker c.write_flag.result
     (λ pays counted. then_pays (c.args.slot.at + c.args.slot.length - 24) (g.F.Flash.state c.args.flash.now) (g.F.Flash.state c.clear_end.new.flash) (g.F.Flash.state c.write_flag.new.flash) c.in-Ok.ensures.calls.passes pays counted) c.write_flag.ensures.pays
+
+pub returns-in-Ok-clause-left : goal.returns-in-Ok-clause-left
+returns-in-Ok-clause-left g c =
+    let sizes = (g.F.Flash.state c.args.flash.now).geometry in
+    let p = end_placed c.args.slot sizes (regular sizes (g.met.F.Flash.lawful c.args.flash.now)) c.requires.slot in
+    told_written (last_page c.args.slot sizes) sizes.page (c.args.slot.at + c.args.slot.length - 24) 8 _ _ _ (omega (arith, p.page_some, p.fits)) (omega (arith, p.page_some, p.fits)) c.in-Ok.ensures.erased c.write_flag.ensures.calls.keeps
+
+pub returns-in-Err-clause-left : goal.returns-in-Err-clause-left
+returns-in-Err-clause-left g c =
+    let sizes = (g.F.Flash.state c.args.flash.now).geometry in
+    told_faded (last_page c.args.slot sizes) sizes.page (c.args.slot.at + c.args.slot.length - 24) 8 _ _ c.clear_end.ensures.fades
+
+pub returns-in-Ok-clause-whole : goal.returns-in-Ok-clause-whole
+returns-in-Ok-clause-whole g c =
+    let sizes = (g.F.Flash.state c.args.flash.now).geometry in
+    let p = end_placed c.args.slot sizes (regular sizes (g.met.F.Flash.lawful c.args.flash.now)) c.requires.slot in
+    on_ok_weaker c.write_flag.result (λ told. told_confirmed c.args.slot sizes _ _ _ p c.in-Ok.ensures.erased told) c.write_flag.ensures.ok

@@ -1,5 +1,6 @@
 use Rattle.std.proofs.Common.{◌+◌, ◌≤◌, arith}
 use Rattle.std.proofs.lemmas.Result.{on_ok_weaker}
+use Rattle.smp_slot.proofs.Counting.{erases_then, erases_more}
 use Rattle.smp_slot.proofs.Paying.{then_pays}
 use Rattle.smp_flash.proofs.Passing.{Calls-after, changes_add, reads_add, reads_more}
 use Rattle.smp_slot.proofs.page.put_in_page.Goals as goal
@@ -21,3 +22,9 @@ returns-clause-reads g c = reads_more (c.args.page + 0) c.args.page _ _ (omega a
 
 pub returns-clause-inner_reads : goal.returns-clause-inner_reads
 returns-clause-inner_reads g c = λ inner. reads_add 0 0 _ _ _ (c.in_ok-ready_page.ensures.inner_reads inner) c.write_bytes.ensures.reads
+
+pub returns-clause-erases : goal.returns-clause-erases
+returns-clause-erases g c = erases_then (g.F.Flash.state c.args.flash.now).bytes 1 _ _ _ _ c.in_ok-ready_page.ensures.erases c.write_bytes.ensures.changes
+
+pub returns-in_err-ready_page-clause-erases : goal.returns-in_err-ready_page-clause-erases
+returns-in_err-ready_page-clause-erases g c = erases_more (g.F.Flash.state c.args.flash.now).bytes 0 1 _ _ _ (omega arith) c.in_err-ready_page.ensures.erases
