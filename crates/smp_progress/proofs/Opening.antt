@@ -65,6 +65,21 @@ none_opened layout first body items place x y le at same is l has none kept =
     go (Some bytes) h k = λ entry held.
         none_on layout first entry items bytes le (subst (IsBody (image_of layout) first) same is) l (subst (λ (q : BankPlace). HasBody q 8 items bytes) at h) k held
 
+-- a body that is of no record
+pub none_read : (layout : Layout) (body items : List ℕ) (place : BankPlace) (x : Option (List ℕ)) → place ≡ progress_of layout → body ≡ items
+    → ((entry : Record) → IsRecord (geometry_of layout) entry → IsBody (image_of layout) entry body → ⊥) → IfSome x (HasBody place 8 items)
+    → IfSome x (λ held. (entry : Record) → HasRecord layout entry held → ⊥)
+none_read layout body items place None at same none has = tt
+none_read layout body items place (Some bytes) at same none has = λ entry held.
+    let f = found (content_of (progress_of layout) cell_length bytes) items (subst (λ (q : BankPlace). HasBody q 8 items bytes) at has) in
+    let one : f.content ≡ held.content = some_same f.content held.content (sym f.is ∙ held.held) in
+    let own : IsBody (image_of layout) held.gives.first items = subst (IsBody (image_of layout) held.gives.first) (ap (λ (c : Content). c.body) (sym one) ∙ f.body_is) held.gives.body in
+    none held.gives.first held.gives.lawful (subst (IsBody (image_of layout) held.gives.first) (sym same) own)
+
+pub not_some : {T : Type 0} (o : Option T) → ((x : T) → o ≡ Some x → ⊥) → o ≡ None
+not_some None none = refl
+not_some (Some x) none = absurd (none x refl)
+
 -- a fault is the same with any other value beside it
 pub err_again : {T U : Type 0} (x y : BankFault) → IsErrOf {T = T} {E = BankFault} (Err x) y → IsErrOf {T = U} {E = BankFault} (Err x) y
 err_again x y is = let e : x ≡ y = cc is in ap Err e

@@ -81,6 +81,9 @@ impl Progress {
         ensures calls { Calls (sides (progress_of layout.now)) (bank_end result) (F.state flash.old) (F.state flash.new) }
         ensures kept { (F.state flash.new).bytes ≡ (F.state flash.old).bytes }
         ensures reads { IfOk result (λ opened. ReadsAtMost (4112 + 8 * standing opened.0.bank.gates) (F.state flash.old).bytes_read (F.state flash.new).bytes_read) }
+
+        // Whatever it answers: the heads of both sides, and the bytes of one side once, but for the last cell.
+        ensures reads_most { IfSome (F.state flash.old).bytes (λ held. ReadsAtMost 4120 (F.state flash.old).bytes_read (F.state flash.new).bytes_read) }
         ensures changes { ChangesAtMost 0 0 (F.state flash.old).changes (F.state flash.new).changes }
         ensures layout { IfOk result (λ opened. opened.0.layout ≡ layout.now) }
         ensures entry { IfOk result (λ opened. opened.0.entry ≡ opened.1) }

@@ -125,3 +125,49 @@ fn a_torn_cell_keeps_the_record(rt: HostRuntime) -> Result<(), Fail> {
     assert_eq!(rt; found, upload(2000, 8));
     Ok(())
 }
+
+/// Puts records of one announcement, whose offsets are 32, 40, 48 and so on, as many as so.
+fn put_offsets(
+    flash: &mut MemFlash,
+    layout: &Layout,
+    progress: &mut Progress,
+    count: u32,
+) -> Result<(), BankFault>
+    requires layout { progress.old.layout ≡ layout.now }
+    requires sizes { geometry_of layout.now ≡ (mem_state flash.old).geometry }
+    requires sure { IsTrue progress.old.bank.sure }
+    requires says { IfSome (mem_state flash.old).bytes (ProgressSays progress.old) }
+    requires few { count ≤ 252 }
+    ensures layout { progress.new.layout ≡ layout.now }
+    ensures sizes { geometry_of layout.now ≡ (mem_state flash.new).geometry }
+    ensures sure { OnOk result (IsTrue progress.new.bank.sure) }
+    ensures says { OnOk result (IfSome (mem_state flash.new).bytes (ProgressSays progress.new)) }
+{
+    for i in 0..count {
+        put(flash, layout, progress, &upload(2400, 32 + 8 * i))?;
+    }
+    Ok(())
+}
+
+/// An upload of 2400 bytes, a start with 32 of them and 251 parts of 8: each takes a cell, which is two writes. The next part's record
+/// replaces the side, of which one page is not FF.
+#[test]
+fn a_full_side_is_replaced(rt: HostRuntime) -> Result<(), Fail> {
+    let (mut flash, layout) = fresh(rt.alloc())?;
+    let mut progress = Progress::make(&mut flash, &layout)?;
+    put(&mut flash, &layout, &mut progress, &upload(2400, 0))?;
+    assert_eq!(rt; (flash.changes(), flash.erases()), (4, 0));
+    put_offsets(&mut flash, &layout, &mut progress, 252)?;
+    assert_eq!(rt; (flash.changes(), flash.erases()), (4 + 2 * 252, 0));
+    let (_, found) = Progress::open(&mut flash, &layout)?;
+    assert_eq!(rt; found, upload(2400, 2040));
+    put(&mut flash, &layout, &mut progress, &upload(2400, 2048))?;
+    assert_eq!(rt; (flash.changes(), flash.erases()), (4 + 2 * 252 + 3, 1));
+    let read = flash.read_bytes();
+    let (mut progress, found) = Progress::open(&mut flash, &layout)?;
+    assert_eq!(rt; found, upload(2400, 2048));
+    assert!(rt; flash.read_bytes() <= read.saturating_add(4112));
+    put(&mut flash, &layout, &mut progress, &upload(2400, 2056))?;
+    assert_eq!(rt; (flash.changes(), flash.erases()), (4 + 2 * 252 + 3 + 2, 1));
+    Ok(())
+}
