@@ -310,13 +310,13 @@ fn arm_with(flash: &mut MemFlash, arm: Option<Arm>)
     }
 }
 
-/// Appends a cell with this arm, and opens the bank once the power is on. It has so many cells then.
+/// Appends a cell with this arm, and opens the bank once the power is on. It has so many cells then, and this was the answer.
 fn append_and_check(
     rt: &impl Abort,
     flash: &mut MemFlash,
     place: BankPlace,
     bank: &mut Bank,
-    step: (Option<Arm>, [u8; 8], u32),
+    step: (Option<Arm>, [u8; 8], u32, Result<(), BankFault>),
 ) -> Result<Bank, Fail>
     requires after { ForSome step.0 (λ arm. 1 ≤ arm.after) }
     requires same { bank.old.place ≡ place }
@@ -330,12 +330,13 @@ fn append_and_check(
     ensures sure { IfOk result (λ bank. IsTrue bank.sure) }
     ensures says { IfOk result (λ bank. IfSome (mem_state flash.new).bytes (BankSays bank)) }
 {
-    let (arm, cell, cells) = step;
+    let (arm, cell, cells, answer) = step;
     arm_with(flash, arm);
-    let _ = bank.append(flash, &cell);
+    let went = bank.append(flash, &cell);
     flash.power_on();
     let bank = checked(rt, flash, place, (1, X.as_slice()))?;
     assert_eq!(rt; bank.cells(), cells, "{arm:?}");
+    assert_eq!(rt; went, answer, "{arm:?}");
     Ok(bank)
 }
 
@@ -345,6 +346,8 @@ fn has_cell(flash: &mut MemFlash, bank: &Bank, n: u32, cell: [u8; 8]) -> Result<
     requires sure { IsTrue bank.now.sure }
     requires fits { Fits bank.now.place (mem_state flash.old).geometry }
     requires says { IfSome (mem_state flash.old).bytes (BankSays bank.now) }
+    ensures fits { Fits bank.now.place (mem_state flash.new).geometry }
+    ensures says { IfSome (mem_state flash.new).bytes (BankSays bank.now) }
 {
     if n >= bank.cells() {
         return Ok(false);
@@ -352,6 +355,18 @@ fn has_cell(flash: &mut MemFlash, bank: &Bank, n: u32, cell: [u8; 8]) -> Result<
     let mut held = [0u8; 8];
     bank.read_cell(flash, n, &mut held)?;
     Ok(held == cell)
+}
+
+/// What `append` answers with this arm, where a cell is free: it is two writes.
+fn answer_of(arm: Arm) -> Result<(), BankFault> {
+    if arm.after > 2 {
+        return Ok(());
+    }
+    match arm.kind {
+        ArmKind::Cut => Err(BankFault::Off),
+        ArmKind::Fail => Err(BankFault::Fault(Operation::Write)),
+        ArmKind::Read => Ok(()),
+    }
 }
 
 /// A cell, one that is cut, and one more, which stands behind the first, and behind the second where its gate was written.
@@ -368,11 +383,13 @@ fn cut_in_a_cell(
     let (two, all) = if stands { (2, 3) } else { (1, 2) };
     let (mut flash, place) = fresh(alloc, sizes(512, 8))?;
     let mut bank = Bank::make(&mut flash, place, 8, &X)?;
-    let mut bank = append_and_check(rt, &mut flash, place, &mut bank, (None, first, 1))?;
-    let arm = Some(cut(Region::Progress, after, left));
-    let mut bank = append_and_check(rt, &mut flash, place, &mut bank, (arm, second, two))?;
+    let mut bank = append_and_check(rt, &mut flash, place, &mut bank, (None, first, 1, Ok(())))?;
+    let arm = cut(Region::Progress, after, left);
+    let step = (Some(arm), second, two, answer_of(arm));
+    let mut bank = append_and_check(rt, &mut flash, place, &mut bank, step)?;
     let elsewhere = Some(cut(Region::Scratch, 1, Left::Nothing));
-    let bank = append_and_check(rt, &mut flash, place, &mut bank, (elsewhere, third, all))?;
+    let step = (elsewhere, third, all, Ok(()));
+    let bank = append_and_check(rt, &mut flash, place, &mut bank, step)?;
     let has_last = has_cell(&mut flash, &bank, two, third)?;
     assert!(rt; has_last, "{arm:?}");
     Ok(())
@@ -392,6 +409,157 @@ fn a_torn_cell_is_skipped_or_stands(rt: HostRuntime) -> Result<(), Fail> {
     for (after, left, stands) in rows {
         if 1 <= after {
             cut_in_a_cell(&rt, rt.alloc(), after, left, stands)?;
+        }
+    }
+    Ok(())
+}
+
+/// How many cells of 8 bytes a side has behind a body of 48.
+const PLACES: u32 = 252;
+
+/// Cells that were begun on a side: how many count, and how many places are used.
+#[derive(Clone, Copy, Debug, PartialEq, Eq)]
+struct Begun {
+    cells: u32,
+    used: u32,
+}
+
+/// What becomes of the places where the operation of this number is struck, the cell's or its gate's: with a gate the cell
+/// counts; a place that holds nothing but FF is still free; and any other is used and doesn't count.
+fn begun_after(begun: Begun, arm: Arm) -> Begun {
+    if arm.after > 2 || arm.after == 2 && arm.left == Left::Whole {
+        return Begun {
+            cells: begun.cells.saturating_add(1),
+            used: begun.used.saturating_add(1),
+        };
+    }
+    if arm.after == 1 && arm.left == Left::Nothing {
+        return begun;
+    }
+    Begun {
+        cells: begun.cells,
+        used: begun.used.saturating_add(1),
+    }
+}
+
+/// What one cell more makes of it, and what is answered.
+fn one_more(begun: Begun) -> (Begun, Result<(), BankFault>) {
+    if begun.used >= PLACES {
+        return (begun, Err(BankFault::Full));
+    }
+    let more = Begun {
+        cells: begun.cells.saturating_add(1),
+        used: begun.used.saturating_add(1),
+    };
+    (more, Ok(()))
+}
+
+/// The bytes of the next cell: its number.
+fn numbered(begun: Begun) -> [u8; 8] {
+    [(begun.cells & 0xff) as u8; 8]
+}
+
+/// Whether each cell of the bank holds its number.
+fn are_numbered(flash: &mut MemFlash, bank: &Bank) -> Result<bool, BankFault>
+    requires cell { bank.now.cell ≡ 8 }
+    requires sure { IsTrue bank.now.sure }
+    requires fits { Fits bank.now.place (mem_state flash.old).geometry }
+    requires says { IfSome (mem_state flash.old).bytes (BankSays bank.now) }
+    ensures fits { Fits bank.now.place (mem_state flash.new).geometry }
+    ensures says { IfSome (mem_state flash.new).bytes (BankSays bank.now) }
+{
+    for n in 0..bank.cells() {
+        if !has_cell(flash, bank, n, [(n & 0xff) as u8; 8])? {
+            return Ok(false);
+        }
+    }
+    Ok(true)
+}
+
+/// Appends a cell with this arm, and one more without, which is refused where no place is free any more.
+fn append_struck(
+    rt: &impl Abort,
+    flash: &mut MemFlash,
+    place: BankPlace,
+    bank: &mut Bank,
+    arm: Arm,
+    begun: Begun,
+) -> Result<(Bank, Begun), Fail>
+    requires after { 1 ≤ arm.after }
+    requires same { bank.old.place ≡ place }
+    requires cell { bank.old.cell ≡ 8 }
+    requires sure { IsTrue bank.old.sure }
+    requires fits { Fits place (mem_state flash.old).geometry }
+    requires says { IfSome (mem_state flash.old).bytes (BankSays bank.old) }
+    ensures fits { Fits place (mem_state flash.new).geometry }
+    ensures place { IfOk result (λ made. made.0.place ≡ place) }
+    ensures cell { IfOk result (λ made. made.0.cell ≡ 8) }
+    ensures sure { IfOk result (λ made. IsTrue made.0.sure) }
+    ensures says { IfOk result (λ made. IfSome (mem_state flash.new).bytes (BankSays made.0)) }
+{
+    let struck = begun_after(begun, arm);
+    let step = (Some(arm), numbered(begun), struck.cells, answer_of(arm));
+    let mut bank = append_and_check(rt, flash, place, bank, step)?;
+    let (whole, answer) = one_more(struck);
+    let step = (None, numbered(struck), whole.cells, answer);
+    let bank = append_and_check(rt, flash, place, &mut bank, step)?;
+    Ok((bank, whole))
+}
+
+/// Fills a side with cells: one that is struck so, and one that is not, in so many turns. Then no place is free, so many cells
+/// count, and each of these holds its number.
+fn fill_struck(
+    rt: &impl Abort,
+    alloc: Global,
+    sizes: Geometry,
+    arm: Arm,
+    turns: u32,
+    cells: u32,
+) -> Result<(), Fail>
+    requires lawful { IsTrue (is_lawful sizes) }
+    requires after { 1 ≤ arm.after }
+{
+    let (mut flash, place) = fresh(alloc, sizes)?;
+    let mut bank = Bank::make(&mut flash, place, 8, &X)?;
+    let mut begun = Begun { cells: 0, used: 0 };
+    for _ in 0..turns {
+        let (next, counts) = append_struck(rt, &mut flash, place, &mut bank, arm, begun)?;
+        bank = next;
+        begun = counts;
+    }
+    assert_eq!(rt; (begun.used, begun.cells), (PLACES, cells), "{arm:?}");
+    assert!(rt; are_numbered(&mut flash, &bank)?, "{arm:?}");
+    assert_eq!(rt;
+        bank.append(&mut flash, &[0; 8]),
+        Err(BankFault::Full),
+        "{arm:?}"
+    );
+    Ok(())
+}
+
+/// Each operation of `append` is cut and fails, behind each number of cells, up to a side with 252.
+#[test]
+fn a_struck_cell_takes_at_most_its_place(rt: HostRuntime) -> Result<(), Fail> {
+    let rows = [
+        (1, Left::Nothing, 252, 252),
+        (1, Left::Whole, 126, 126),
+        (1, Left::Seed(7), 126, 126),
+        (2, Left::Nothing, 126, 126),
+        (2, Left::Whole, 126, 252),
+        (2, Left::Seed(9), 126, 126),
+    ];
+    for (after, left, turns, cells) in rows {
+        for kind in [ArmKind::Cut, ArmKind::Fail] {
+            if 1 <= after {
+                let arm = Arm {
+                    kind,
+                    region: Region::Progress,
+                    after,
+                    left,
+                };
+                fill_struck(&rt, rt.alloc(), sizes(512, 8), arm, turns, cells)?;
+                fill_struck(&rt, rt.alloc(), sizes(4096, 1), arm, turns, cells)?;
+            }
         }
     }
     Ok(())
