@@ -1,6 +1,6 @@
 -- What the steps of a save leave of the bank and of the value.
 use Rattle.std.proofs.Common.{◌≡◌, ◌≢◌, ◌⊎◌, inl, inr, ◌+◌, ◌-◌, ◌^◌, ℕ, List, true, false, Option, Some, None, refl, sym, ap, subst, ◌∙◌, arith}
-use Rattle.std.specs.Prelude.{◌↔◌, IfSome, Result, Ok, Err, OnOk, IsErrOf}
+use Rattle.std.specs.Prelude.{◌↔◌, IfSome, Result, Ok, Err, OnOk, OnErr, IsErrOf}
 use Rattle.smp_flash.specs.Area.{Told}
 use Rattle.smp_flash.specs.Calls.{ChangesAtMost, NoGreater, Smaller}
 use Rattle.smp_flash.specs.Layout.{geometry_of, settings_of, CountsInBank, CountsInRegions}
@@ -266,3 +266,19 @@ pays_before layout other running others a m b x z l r e aim less pays =
     (λ u p none aims. then_Smaller a.patience m.patience b.patience less
     (p (λ already. none (subst (λ (xs : List Setting). SavedAlready layout xs u) r (subst (λ (n : Layout). SavedAlready n others u) l already)))
     (subst AimsAtSettings (sym aim) aims))) pays)
+
+-- a cell needs no erase
+pub fewer_erases : (f : List ℕ → ℕ) (before now : Option Changes) (x : Option (List ℕ)) → ChangesAtMost 2 0 before now → IfSome x (λ held. ChangesAtMost 2 (f held) before now)
+fewer_erases f before now None c = tt
+fewer_erases f before now (Some u) c = changes_more 2 2 0 (f u) before now (omega arith) (omega arith) c
+
+-- what is found before a refusal stays
+pub err_weaker : {T : Type 0} (r : Result T BankFault) (A B : Type 0) → (A → B) → OnErr r A → OnErr r B
+err_weaker (Ok x) A B f a = tt
+err_weaker (Err fault) A B f a = f a
+
+pub refused_after : (layout : Layout) (s : SettingsState) (now : List Setting) (A : Type 0) (x z : Option (List ℕ)) → s.layout ≡ layout → z ≡ x → s.bank.sure ≡ true → IfSome z (SettingsSay s)
+    → now ≡ s.saved → A ⊎ IfSome x (SavedStand layout now)
+refused_after layout s now A x z l e sure says same =
+    inr (subst (λ (xs : List Setting). IfSome x (SavedStand layout xs)) (sym same)
+    (IfSome-same (SavedStand layout s.saved) z x (sym e) (subst (λ (m : Layout). IfSome z (SavedStand m s.saved)) l (saved_said s z sure says))))

@@ -1,12 +1,13 @@
 -- What the bytes of a flash stand for as far as the saved settings go, and what the value that holds the settings says.
-use Rattle.std.specs.Prelude.{◌≡◌, ◌⊎◌, ◌+◌, ◌-◌, ◌*◌, ◌^◌, ℕ, length, true, List, [], ◌∷◌, Option, Some, IsSome, Result, Ok, Err}
+use Rattle.std.specs.Prelude.{◌≡◌, ◌⊎◌, ◌+◌, ◌-◌, ◌*◌, ◌/◌, ◌^◌, ℕ, length, true, List, [], ◌∷◌, Option, Some, IsSome, Result, Ok, Err}
+use Rattle.smp_flash.specs.Area.{dirty_pages}
 use Rattle.smp_flash.specs.Calls.{ChangesAtMost}
 use Rattle.smp_flash.specs.Layout.{settings_of}
 use Rattle.smp_flash.specs.State.{Changes}
 use Rattle.smp_flash.specs.declared.layout.Layout.{Layout}
 use Rattle.smp_flash.specs.declared.region.Region.{Region}
 use Rattle.smp_flash.specs.declared.region.Region.TheVariants.{Settings, SettingsGate}
-use Rattle.smp_gate.specs.Bank.{BankState, BankSays}
+use Rattle.smp_gate.specs.Bank.{BankState, BankSays, other}
 use Rattle.smp_gate.specs.Cells.{places, standing, gate_reads}
 use Rattle.smp_gate.specs.Newest.{just, content_of, newest_side, newest_generation, SameNewest, IsFull}
 use Rattle.smp_model.specs.declared.error.TheConstants.{SETTING_NAME_LENGTH, SETTING_VALUE_LENGTH, SETTINGS_FULL}
@@ -41,6 +42,10 @@ pub record SettingsState : Type 0 where
   pub saved : List Setting
   pub running : List Setting
   pub form : List ℕ
+
+-- how many erases a replacement needs: one for each page of the bank's other side that isn't all FF
+abbrev pub erases_needed : ℕ → BankState → List ℕ → ℕ
+erases_needed page bank bytes = dirty_pages page (other bank.place bank.second) (4096 / page) bytes
 
 -- The bytes that are read where a bank is opened: both heads, the newest body, what tells which cells are used, and each cell
 -- that counts.

@@ -23,6 +23,8 @@ mod laws;
 mod saved;
 mod settings;
 mod table;
+#[cfg(test)]
+mod tests;
 
 pub use fault::SettingFault;
 pub use laws::{

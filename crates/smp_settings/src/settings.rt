@@ -1,5 +1,5 @@
 // The settings of a device: the running map and the saved one.
-ghost use Rattle.std.specs.Prelude.{◌≡◌, ◌≢◌, ◌↔◌, ◌-◌, ◌^◌, [], ◌∷◌, option_map, IsTrue, IsOk, IsErrOf, OnOk, OnErr, IfOk, IfSome, IsSome, None, true, false};
+ghost use Rattle.std.specs.Prelude.{◌≡◌, ◌≢◌, ◌⊎◌, ◌↔◌, ◌-◌, ◌^◌, [], ◌∷◌, option_map, IsTrue, IsOk, IsErrOf, OnOk, OnErr, IfOk, IfSome, IsSome, None, true, false};
 ghost use Rattle.smp_flash.specs.Area.{area, Told};
 ghost use Rattle.smp_flash.specs.Calls.{Calls, ReadsAtMost, ChangesAtMost, Smaller};
 ghost use Rattle.smp_flash.specs.Layout.{geometry_of, settings_of, bank_spots};
@@ -11,7 +11,7 @@ ghost use Rattle.smp_model.specs.SettingsGroup.{writes_setting};
 ghost use Rattle.smp_settings.specs.Cells.{cell_length};
 ghost use Rattle.smp_settings.specs.Found.{HoldsBank};
 ghost use Rattle.smp_settings.specs.Places.{CellSaves};
-ghost use Rattle.smp_settings.specs.Saved.{SavedStand, SavedReadable, SavedAlready, SavedOrThis, SavedAnew, SavesCheaply, OneCellIsEnough, ElseAnew, IsWorn, AimsAtSettings, SaysSaved, SettingsSay, after_write, opening_reads, written_response};
+ghost use Rattle.smp_settings.specs.Saved.{SavedStand, SavedReadable, SavedAlready, SavedOrThis, SavedAnew, SavesCheaply, OneCellIsEnough, ElseAnew, IsWorn, AimsAtSettings, SaysSaved, SettingsSay, after_write, erases_needed, opening_reads, written_response};
 
 use crate::cell::CELL;
 use crate::difference::{is_same, write_change};
@@ -176,6 +176,7 @@ impl Settings {
         ensures calls { Calls (bank_spots (settings_of self.old.layout)) (bank_end result) (F.state flash.old) (F.state flash.new) }
         ensures reads { self.old.bank.sure ≡ true → ReadsAtMost 4096 (F.state flash.old).bytes_read (F.state flash.new).bytes_read }
         ensures changes { ChangesAtMost 2 8 (F.state flash.old).changes (F.state flash.new).changes }
+        ensures erases { self.old.bank.sure ≡ true → IfSome (F.state flash.old).bytes (λ held. ChangesAtMost 2 (erases_needed (F.state flash.old).geometry.page self.old.bank held) (F.state flash.old).changes (F.state flash.new).changes) }
         ensures either { Told (SavedOrThis self.old.layout self.old.running) (F.state flash.old).bytes (F.state flash.new).bytes }
         ensures all { OnOk result (IfSome (F.state flash.new).bytes (SavedStand self.old.layout self.old.running)) }
 
@@ -187,6 +188,8 @@ impl Settings {
         ensures layout { self.new.layout ≡ self.old.layout }
         ensures running { self.new.running ≡ self.old.running }
         ensures saved { OnOk result (SaysSaved self.old.running self.new) }
+        ensures refused { OnErr result ((self.new.saved ≡ self.old.saved) ⊎ IfSome (F.state flash.old).bytes (SavedStand self.old.layout self.new.saved)) }
+        ensures sure_refused { self.old.bank.sure ≡ true → OnErr result (self.new.saved ≡ self.old.saved) }
         ensures worn { IsErrOf result BankFault.Worn → IfSome (F.state flash.old).bytes (IsWorn self.old.layout) }
         ensures fresh { OnOk result (IfSome (F.state flash.old).bytes (λ held. IsWorn self.old.layout held → ⊥)) }
         ensures sure_worn { self.old.bank.sure ≡ true → IsErrOf result BankFault.Worn ↔ (self.old.bank.generation ≡ 2 ^ 32 - 1) }
@@ -214,6 +217,7 @@ impl Settings {
         ensures layout { self.new.layout ≡ self.old.layout }
         ensures running { self.new.running ≡ self.old.running }
         ensures sure { OnOk result (self.new.bank.sure ≡ true) }
+        ensures refused { OnErr result (self.new ≡ self.old) }
         ensures same { self.old.bank.sure ≡ true → (IsOk result) × (self.new ≡ self.old) × (F.state flash.new ≡ F.state flash.old) }
         ensures formatted { IsErrOf result BankFault.Unformatted → (F.state flash.old).bytes ≡ None }
         ensures full { IsErrOf result BankFault.Full → ⊥ }
@@ -249,6 +253,7 @@ impl Settings {
         ensures calls { Calls (bank_spots (settings_of self.old.layout)) (bank_end result) (F.state flash.old) (F.state flash.new) }
         ensures reads { ReadsAtMost 4096 (F.state flash.old).bytes_read (F.state flash.new).bytes_read }
         ensures changes { ChangesAtMost 2 8 (F.state flash.old).changes (F.state flash.new).changes }
+        ensures erases { IfSome (F.state flash.old).bytes (λ held. ChangesAtMost 2 (erases_needed (F.state flash.old).geometry.page self.old.bank held) (F.state flash.old).changes (F.state flash.new).changes) }
         ensures either { Told (SavedOrThis self.old.layout self.old.running) (F.state flash.old).bytes (F.state flash.new).bytes }
         ensures all { OnOk result (IfSome (F.state flash.new).bytes (SavedStand self.old.layout self.old.running)) }
         ensures cheap { Told (SavesCheaply self.old.layout self.old.running (F.state flash.old).changes (F.state flash.new).changes) (F.state flash.old).bytes (F.state flash.new).bytes }
@@ -258,6 +263,7 @@ impl Settings {
         ensures layout { self.new.layout ≡ self.old.layout }
         ensures running { self.new.running ≡ self.old.running }
         ensures saved { OnOk result (SaysSaved self.old.running self.new) }
+        ensures refused { OnErr result (self.new.saved ≡ self.old.saved) }
         ensures worn { IsErrOf result BankFault.Worn ↔ (self.old.bank.generation ≡ 2 ^ 32 - 1) }
         ensures idle { self.old.bank.generation ≡ 2 ^ 32 - 1 → (F.state flash.new ≡ F.state flash.old) × (self.new ≡ self.old) }
         ensures formatted { IsErrOf result BankFault.Unformatted → ⊥ }
@@ -283,6 +289,7 @@ impl Settings {
         ensures calls { Calls (bank_spots (settings_of self.old.layout)) (bank_end result) (F.state flash.old) (F.state flash.new) }
         ensures reads { ReadsAtMost 4096 (F.state flash.old).bytes_read (F.state flash.new).bytes_read }
         ensures changes { ChangesAtMost 2 8 (F.state flash.old).changes (F.state flash.new).changes }
+        ensures erases { IfSome (F.state flash.old).bytes (λ held. ChangesAtMost 2 (erases_needed (F.state flash.old).geometry.page self.old.bank held) (F.state flash.old).changes (F.state flash.new).changes) }
         ensures either { Told (SavedOrThis self.old.layout self.old.running) (F.state flash.old).bytes (F.state flash.new).bytes }
         ensures all { OnOk result (IfSome (F.state flash.new).bytes (SavedStand self.old.layout self.old.running)) }
         ensures cell { Told (OneCellIsEnough self.old.layout self.old.running (F.state flash.old).changes (F.state flash.new).changes) (F.state flash.old).bytes (F.state flash.new).bytes }
@@ -292,6 +299,7 @@ impl Settings {
         ensures layout { self.new.layout ≡ self.old.layout }
         ensures running { self.new.running ≡ self.old.running }
         ensures saved { OnOk result (SaysSaved self.old.running self.new) }
+        ensures refused { OnErr result (self.new.saved ≡ self.old.saved) }
         ensures worn { IsErrOf result BankFault.Worn → ⊥ }
         ensures formatted { IsErrOf result BankFault.Unformatted → ⊥ }
         ensures full { IsErrOf result BankFault.Full → ⊥ }
@@ -329,6 +337,7 @@ impl Settings {
         ensures layout { self.new.layout ≡ self.old.layout }
         ensures running { self.new.running ≡ self.old.running }
         ensures added { IfOk result (λ added. added ≡ true → SaysSaved self.old.running self.new) }
+        ensures refused { OnErr result (self.new.saved ≡ self.old.saved) }
         ensures all { IfOk result (λ added. added ≡ true → IfSome (F.state flash.new).bytes (SavedStand self.old.layout self.old.running)) }
         ensures free { IfOk result (λ added. added ≡ true → IfSome (F.state flash.old).bytes (λ held. IsFull (settings_of self.old.layout) cell_length held → ⊥)) }
         ensures none_free { IfOk result (λ added. added ≡ false → IfSome (F.state flash.old).bytes (IsFull (settings_of self.old.layout) cell_length)) }
@@ -362,6 +371,7 @@ impl Settings {
         ensures calls { Calls (bank_spots (settings_of self.old.layout)) (bank_end result) (F.state flash.old) (F.state flash.new) }
         ensures reads { ReadsAtMost 4096 (F.state flash.old).bytes_read (F.state flash.new).bytes_read }
         ensures changes { ChangesAtMost 2 8 (F.state flash.old).changes (F.state flash.new).changes }
+        ensures erases { IfSome (F.state flash.old).bytes (λ held. ChangesAtMost 2 (erases_needed (F.state flash.old).geometry.page self.old.bank held) (F.state flash.old).changes (F.state flash.new).changes) }
         ensures either { Told (SavedOrThis self.old.layout self.old.running) (F.state flash.old).bytes (F.state flash.new).bytes }
         ensures all { OnOk result (IfSome (F.state flash.new).bytes (SavedStand self.old.layout self.old.running)) }
         ensures anew { OnOk result (Told (SavedAnew self.old.layout self.old.running) (F.state flash.old).bytes (F.state flash.new).bytes) }
@@ -370,6 +380,7 @@ impl Settings {
         ensures layout { self.new.layout ≡ self.old.layout }
         ensures running { self.new.running ≡ self.old.running }
         ensures saved { OnOk result (SaysSaved self.old.running self.new) }
+        ensures refused { OnErr result (self.new.saved ≡ self.old.saved) }
         ensures worn { IsErrOf result BankFault.Worn ↔ (self.old.bank.generation ≡ 2 ^ 32 - 1) }
         ensures idle { self.old.bank.generation ≡ 2 ^ 32 - 1 → F.state flash.new ≡ F.state flash.old }
         ensures formatted { IsErrOf result BankFault.Unformatted → ⊥ }

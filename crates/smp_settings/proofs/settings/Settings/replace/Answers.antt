@@ -1,13 +1,14 @@
 use Rattle.std.proofs.Common.{◌∙◌, inl, inr, sym, ap, subst, List}
 use Rattle.std.specs.Prelude.{IfSome, Err}
 use Rattle.smp_flash.specs.Area.{Told}
+use Rattle.smp_flash.specs.Calls.{ChangesAtMost}
 use Rattle.smp_flash.specs.Layout.{settings_of}
 use Rattle.smp_flash.specs.State.{FlashState}
 use Rattle.smp_gate.specs.Bank.{BankState}
 use Rattle.smp_gate.specs.Fault.{after_fault}
 use Rattle.smp_model.specs.declared.setting.Setting.{Setting}
 use Rattle.smp_model.specs.Settings.{stored_form}
-use Rattle.smp_settings.specs.Saved.{SettingsState, SavedOrThis, SavedStand}
+use Rattle.smp_settings.specs.Saved.{SettingsState, SavedOrThis, SavedStand, erases_needed}
 use Rattle.smp_settings.proofs.Saving.{either_told, all_saved, says_after}
 use Rattle.smp_settings.proofs.Storing.{aimed, anew_told, says_refused}
 use Rattle.smp_settings.proofs.settings.Settings.replace.Goals as goal
@@ -75,3 +76,9 @@ returns-in-Err-clause-says g c =
       | inl e ↦ ap (λ (f : FlashState). f.bytes) (c.replace.ensures.idle (c.in-Err.ensures.worn.0 (ap Err e)))
       | inr e ↦ absurd (c.in-Err.ensures.full (ap Err e))
     ])
+
+pub returns-in-Ok-clause-erases : goal.returns-in-Ok-clause-erases
+returns-in-Ok-clause-erases g c =
+    subst (λ (s : SettingsState). IfSome (g.F.Flash.state c.args.flash.now).bytes
+    (λ held. ChangesAtMost 2 (erases_needed (g.F.Flash.state c.args.flash.now).geometry.page s.bank held) (g.F.Flash.state c.args.flash.now).changes (g.F.Flash.state c.replace.new.flash).changes))
+    c.self.view_is c.in-Ok.ensures.erases

@@ -5,7 +5,7 @@ use Rattle.smp_flash.specs.State.{FlashState}
 use Rattle.smp_flash.specs.declared.layout.Layout.{Layout}
 use Rattle.smp_flash.proofs.Passing.{Calls-after, changes_add}
 use Rattle.smp_gate.specs.Fault.{bank_end}
-use Rattle.smp_settings.proofs.Storing.{cheap_after, last_told, worn_before, pays_before, ok_weaker, ok_fresh}
+use Rattle.smp_settings.proofs.Storing.{cheap_after, last_told, worn_before, pays_before, ok_weaker, ok_fresh, err_weaker, refused_after}
 use Rattle.smp_settings.proofs.settings.Settings.save.Goals as goal
 
 pub returns-in-Ok-clause-calls : goal.returns-in-Ok-clause-calls
@@ -40,3 +40,8 @@ returns-in-Ok-clause-pays g c =
     ok_weaker c.store.result _ _
     (pays_before c.args.self.now.layout _ c.args.self.now.running _ (g.F.Flash.state c.args.flash.now) (g.F.Flash.state c.make_sure.new.flash) (g.F.Flash.state c.store.new.flash) _ _ c.make_sure.ensures.layout c.make_sure.ensures.running c.make_sure.ensures.kept
     c.in-Ok.ensures.calls.passes.aim c.in-Ok.ensures.calls.passes.patience) c.store.ensures.pays
+
+pub returns-in-Ok-clause-refused : goal.returns-in-Ok-clause-refused
+returns-in-Ok-clause-refused g c =
+    err_weaker c.store.result _ _
+    (refused_after c.args.self.now.layout c.make_sure.new.self _ _ _ _ c.make_sure.ensures.layout c.make_sure.ensures.kept c.in-Ok.ensures.sure c.make_sure.ensures.says) c.store.ensures.refused

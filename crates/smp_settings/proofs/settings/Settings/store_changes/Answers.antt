@@ -3,7 +3,7 @@ use Rattle.smp_flash.proofs.Passing.{reads_more}
 use Rattle.smp_settings.specs.Cells.{CellChange}
 use Rattle.smp_settings.specs.Places.{IsOneChange, CellSaves}
 use Rattle.smp_settings.specs.Saved.{SettingsState, SavedOrThis}
-use Rattle.smp_settings.proofs.Storing.{no_cell_told, cell_told, else_told, not_else_told, ages_more, ok_weaker}
+use Rattle.smp_settings.proofs.Storing.{no_cell_told, cell_told, else_told, not_else_told, ages_more, ok_weaker, fewer_erases}
 use Rattle.smp_settings.proofs.settings.Settings.store_changes.Goals as goal
 
 pub returns-then-not-write_change-clause-cell : goal.returns-then-not-write_change-clause-cell
@@ -28,3 +28,6 @@ returns-then-added-clause-anew g c =
 
 pub returns-then-added-clause-ages : goal.returns-then-added-clause-ages
 returns-then-added-clause-ages g c = ages_more c.args.self.now.layout _ _ c.append.ensures.ages
+
+pub returns-then-added-clause-erases : goal.returns-then-added-clause-erases
+returns-then-added-clause-erases g c = fewer_erases _ _ _ _ c.append.ensures.changes
