@@ -1,14 +1,12 @@
 -- What a change makes of settings within the limits, and what a cell says of it.
-use Rattle.std.proofs.Common.{◌≡◌, ◌≤◌, ◌<◌, ◌+◌, ◌-◌, ◌&&◌, ℕ, zero, suc, List, [], ◌∷◌, ◌++◌, length, take, drop, Bool, true, false, Option, Some, None, refl, sym, ap, subst, ◌∙◌, arith, length-append, append_assoc, if◌then◌else◌}
-use Rattle.std.specs.Prelude.{nat_le, nat_lt, replicate}
-use Rattle.std.specs.List.{list_all}
+use Rattle.std.proofs.Common.{◌≡◌, ◌≤◌, ◌-◌, ℕ, zero, suc, List, ◌∷◌, ◌++◌, length, take, drop, Bool, true, false, Option, Some, None, refl, sym, ap, ◌∙◌, arith, length-append, append_assoc, if◌then◌else◌}
+use Rattle.std.specs.Prelude.{nat_le, replicate}
 use Rattle.std.proofs.lemmas.Bool.Decides.{nat_tests}
 use Rattle.std.proofs.Math.Seq.{take-append_seam, drop-append_seam}
 use Rattle.smp_model.specs.declared.setting.Setting.{Setting}
-use Rattle.smp_model.specs.Settings.{setting, stored_setting, written_setting, deleted_setting, is_setting, is_setting_name, is_setting_value, is_within_limits, is_full, if_within_limits, counted_in, next_value, next_name, next_setting}
-use Rattle.smp_settings.specs.Cells.{CellChange, Gives, Removes, with_change, change_bytes, cell_of, cell_length, is_change, are_zeros, gives_by, removes_by, lawful_only, change_in, changed_by, after_cell}
-use Rattle.smp_settings.proofs.Limits.{Limits, limits_of, written_within, written_past, deleted_within}
-use Rattle.smp_settings.proofs.Naming.{left_of, right_of}
+use Rattle.smp_model.specs.Settings.{setting, stored_setting, written_setting, deleted_setting, is_setting, is_within_limits, is_full, counted_in, next_value, next_name, next_setting}
+use Rattle.smp_settings.specs.Cells.{CellChange, Gives, Removes, change_bytes, cell_of, cell_length, is_change, are_zeros, gives_by, removes_by, lawful_only, change_in, changed_by}
+use Rattle.smp_settings.proofs.Limits.{limits_of, written_within, written_past, deleted_within}
 
 pub given_full : (name val : List ℕ) (settings : List Setting) → is_within_limits settings ≡ true → is_full name val settings ≡ true
     → changed_by settings (Some (Gives name val)) ≡ None

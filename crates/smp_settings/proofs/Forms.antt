@@ -1,8 +1,8 @@
 -- Reading and writing the stored form.
-use Rattle.std.proofs.Common.{◌≡◌, ◌≤◌, ◌<◌, ◌+◌, ◌-◌, ◌&&◌, ◌||◌, not, ℕ, zero, suc, List, [], ◌∷◌, ◌++◌, length, take, drop, get_or, Bool, true, false, Option, Some, None, refl, sym, ap, subst, ◌∙◌, arith, length-append, if◌then◌else◌}
-use Rattle.std.specs.Prelude.{nat_lt, nat_le, is_none, flat_map, option_map}
+use Rattle.std.proofs.Common.{◌≡◌, ◌≤◌, ◌<◌, ◌+◌, ◌-◌, ◌&&◌, ◌||◌, ℕ, suc, List, [], ◌∷◌, ◌++◌, length, take, drop, get_or, Bool, true, false, Option, Some, None, refl, sym, ap, subst, ◌∙◌, arith, length-append, if◌then◌else◌}
+use Rattle.std.specs.Prelude.{nat_lt, nat_le, is_none, flat_map}
 use Rattle.std.specs.List.{list_all}
-use Rattle.std.specs.Str.{is_utf8, IsUtf8}
+use Rattle.std.specs.Str.{is_utf8}
 use Rattle.std.proofs.lemmas.Bool.Decides.{nat_tests}
 use Rattle.std.proofs.lemmas.Grind.{flat_map-append}
 use Rattle.std.proofs.lemmas.List.Folds.{list_all-append}
@@ -10,9 +10,9 @@ use Rattle.std.proofs.lemmas.List.{append-nil, drop_all}
 use Rattle.smp_model.specs.declared.setting.Setting.{Setting}
 use Rattle.smp_model.specs.Named.{comes_before, is_ascending}
 use Rattle.smp_model.specs.Settings.{setting, is_setting, is_setting_name, is_setting_value, is_within_limits, is_full, value_of, stored_setting, stored_form, next_setting, in_front, followed, settings_from, if_within_limits, written_setting, deleted_setting}
-use Rattle.smp_settings.specs.Reading.{LawfulSoFar, may_follow, TakenWhere, Takes, WereRead, Reads}
-use Rattle.smp_settings.proofs.Limits.{Limits, limits_of, within, written_length}
-use Rattle.smp_settings.proofs.Naming.{left_of, right_of, both_of, all_first, all_second, all_more, all_weaker, before_trans, ascending_before, ascending_behind, ascending_seam}
+use Rattle.smp_settings.specs.Reading.{LawfulSoFar, may_follow, TakenWhere, Reads}
+use Rattle.smp_settings.proofs.Limits.{limits_of, written_length}
+use Rattle.smp_settings.proofs.Naming.{left_of, right_of, both_of, all_second, all_more, all_weaker, before_trans, ascending_before, ascending_seam}
 use Rattle.smp_settings.proofs.Tables.{split_at}
 
 -- a name that is text

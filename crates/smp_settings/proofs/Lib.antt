@@ -1,7 +1,10 @@
 pub mod Changing
 pub mod Counting
+pub mod Differing
 pub mod Forms
+pub mod Lasting
 pub mod Limits
 pub mod Naming
 pub mod Saving
+pub mod Storing
 pub mod Tables

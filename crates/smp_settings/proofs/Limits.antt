@@ -1,14 +1,13 @@
 -- Settings within the limits: what they have in common, and when a write or a delete keeps to them.
-use Rattle.std.proofs.Common.{◌≡◌, ◌≤◌, ◌<◌, ◌+◌, ◌&&◌, ◌||◌, not, ℕ, suc, List, [], ◌∷◌, ◌++◌, length, Bool, true, false, Option, Some, None, refl, sym, ap, subst, ◌∙◌, arith, length-append, if◌then◌else◌}
+use Rattle.std.proofs.Common.{◌≡◌, ◌≤◌, ◌<◌, ◌+◌, ◌&&◌, ◌||◌, ℕ, List, ◌∷◌, ◌++◌, length, Bool, true, false, Option, Some, None, refl, sym, ap, ◌∙◌, arith, length-append}
 use Rattle.std.specs.Prelude.{nat_le, nat_lt, is_none, flat_map, option_map}
 use Rattle.std.specs.List.{list_all}
-use Rattle.std.specs.Str.{is_utf8}
 use Rattle.std.proofs.lemmas.Bool.Decides.{nat_tests}
 use Rattle.std.proofs.lemmas.Grind.{flat_map-append}
 use Rattle.std.specs.Prelude.{filter}
 use Rattle.smp_model.specs.declared.setting.Setting.{Setting}
-use Rattle.smp_model.specs.Named.{comes_before, is_ascending, named, placed, without}
-use Rattle.smp_model.specs.Settings.{setting, value_of, written_setting, deleted_setting, is_setting, is_setting_name, is_setting_value, is_within_limits, is_full, stored_setting, stored_form, if_within_limits}
+use Rattle.smp_model.specs.Named.{comes_before, is_ascending, named}
+use Rattle.smp_model.specs.Settings.{setting, value_of, written_setting, deleted_setting, is_setting, is_within_limits, is_full, stored_setting, stored_form}
 use Rattle.smp_settings.proofs.Naming.{left_of, right_of, both_of, placed_ascending, placed_all, placed_count, placed_again, without_ascending, without_all, without_count, without_shorter, parted, placed_new, placed_without, named_without}
 
 or_left : (a b : Bool) → (a || b) ≡ false → a ≡ false

@@ -1,5 +1,5 @@
 -- Things in ascending order of their names: what is placed among them or taken away, and where it stands.
-use Rattle.std.proofs.Common.{◌≡◌, ◌≤◌, ◌<◌, ◌+◌, ◌&&◌, not, ℕ, suc, List, [], ◌∷◌, ◌++◌, length, Bool, true, false, Option, Some, None, refl, sym, ap, subst, ◌∙◌, arith, length-append, if◌then◌else◌}
+use Rattle.std.proofs.Common.{◌≡◌, ◌≤◌, ◌+◌, ◌&&◌, not, ℕ, suc, List, [], ◌∷◌, ◌++◌, length, Bool, true, false, Some, None, refl, sym, ap, subst, ◌∙◌, arith, length-append, if◌then◌else◌}
 use Rattle.std.specs.Prelude.{find, filter, flat_map}
 use Rattle.std.specs.List.{list_all}
 use Rattle.std.specs.Cmp.Lexicographic.{slice_cmp}
@@ -66,7 +66,7 @@ all_filter p q (x ∷ xs) h =
     (λ _. both_of (p x) (list_all p (filter q xs)) (left_of (p x) (list_all p xs) h) (all_filter p q xs (right_of (p x) (list_all p xs) h)))
     (λ _. all_filter p q xs (right_of (p x) (list_all p xs) h))
 
-all_pass : {A : Type 0} (q : A → Bool) (xs : List A) → list_all q (filter q xs) ≡ true
+pub all_pass : {A : Type 0} (q : A → Bool) (xs : List A) → list_all q (filter q xs) ≡ true
 all_pass q [] = refl
 all_pass q (x ∷ xs) =
     by_if (λ ys. list_all q ys ≡ true) (q x) (x ∷ filter q xs) (filter q xs)

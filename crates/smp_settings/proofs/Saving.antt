@@ -1,10 +1,10 @@
 -- What the content of the bank gives, cell by cell, and what a save makes of it.
-use Rattle.std.proofs.Common.{◌≡◌, ◌≢◌, ◌⊎◌, inl, inr, ◌≤◌, ◌<◌, ◌+◌, ◌-◌, ◌*◌, ℕ, zero, suc, List, [], ◌∷◌, ◌++◌, length, take, drop, Bool, true, false, Option, Some, None, refl, sym, ap, subst, ◌∙◌, arith, length-append, if◌then◌else◌}
+use Rattle.std.proofs.Common.{◌≡◌, inl, inr, ◌≤◌, ◌<◌, ◌+◌, ℕ, zero, suc, List, [], ◌∷◌, ◌++◌, length, take, drop, true, false, Option, Some, None, refl, sym, ap, subst, ◌∙◌, arith, if◌then◌else◌}
 use Rattle.std.specs.Prelude.{IfSome, IsSome, is_some, option_map, ◌&&◌}
 use Rattle.std.specs.Str.{is_utf8}
 use Rattle.std.proofs.lemmas.Bool.Decides.{nat_tests}
 use Rattle.smp_gate.specs.Side.{whole_side}
-use Rattle.std.proofs.lemmas.List.{append-nil, take_all}
+use Rattle.std.proofs.lemmas.List.{take_all}
 use Rattle.smp_flash.specs.Area.{area, Told}
 use Rattle.smp_flash.specs.Calls.{Calls}
 use Rattle.smp_flash.specs.Layout.{settings_of, bank_spots}
@@ -16,12 +16,12 @@ use Rattle.smp_gate.specs.Bank.{BankState, BankSays, current}
 use Rattle.smp_gate.specs.Fault.{after_fault}
 use Rattle.smp_gate.specs.declared.fault.BankFault.{BankFault}
 use Rattle.smp_gate.specs.declared.fault.BankFault.TheVariants as faults
-use Rattle.smp_gate.specs.Cells.{cells_in, cell_of, places, standing}
+use Rattle.smp_gate.specs.Cells.{cells_in, cell_of, standing}
 use Rattle.smp_gate.specs.Newest.{Content, just, content_of, HasBody, HasCell, SameOrAdded, SameOrThis, Added, sides}
 use Rattle.smp_model.specs.declared.setting.Setting.{Setting}
 use Rattle.smp_model.specs.Settings.{setting, is_setting, is_setting_name, is_setting_value, settings_in, stored_form, is_within_limits}
 use Rattle.smp_settings.proofs.Naming.{both_of}
-use Rattle.smp_settings.specs.Cells.{CellChange, cell_length, cell_of as cell_bytes, change_in, changed_by, after_cell, after_cells, settings_given, with_change, is_change}
+use Rattle.smp_settings.specs.Cells.{CellChange, cell_length, cell_of as cell_bytes, changed_by, after_cell, after_cells, settings_given, with_change, is_change}
 use Rattle.smp_settings.specs.Saved.{saved_in, SavedStand, SavedReadable, SavedOrThis, SettingsState, SettingsSay}
 use Rattle.smp_settings.specs.Found.{CellsGive, HoldsBank}
 use Rattle.smp_settings.proofs.Changing.{read_back}

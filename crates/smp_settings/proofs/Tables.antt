@@ -1,5 +1,5 @@
 -- Places in a list of settings: what stands there, what is taken out there, and what is put there.
-use Rattle.std.proofs.Common.{◌≡◌, ◌≤◌, ◌<◌, ◌+◌, not, ℕ, suc, List, [], ◌∷◌, ◌++◌, length, take, drop, get_or, Bool, true, false, Option, Some, None, refl, sym, ap, subst, ◌∙◌, arith, length-append, drop-cons, take-append-drop}
+use Rattle.std.proofs.Common.{◌≡◌, ◌≤◌, ◌<◌, ◌+◌, not, ℕ, suc, List, [], ◌∷◌, ◌++◌, length, take, drop, get_or, true, false, Some, None, refl, sym, ap, subst, ◌∙◌, arith, length-append, drop-cons, take-append-drop}
 use Rattle.std.specs.Prelude.{filter}
 use Rattle.std.specs.List.{list_all, insert, remove}
 use Rattle.std.specs.Str.{bytes_eq}
@@ -7,7 +7,7 @@ use Rattle.std.proofs.lemmas.List.{length-take-le, take_all, append-nil}
 use Rattle.std.proofs.Math.Seq.{take-append_seam, drop-append_seam}
 use Rattle.std.proofs.lemmas.Slice.Eq.{bytes_eq-Decides}
 use Rattle.smp_model.specs.declared.setting.Setting.{Setting}
-use Rattle.smp_model.specs.Named.{comes_before, is_ascending, named, placed, without}
+use Rattle.smp_model.specs.Named.{comes_before, is_ascending, named}
 use Rattle.smp_model.specs.Settings.{setting, written_setting, deleted_setting}
 use Rattle.smp_settings.specs.Places.{StandsAt, PartedAt}
 use Rattle.smp_settings.proofs.Naming.{found_first, found_none, parted_at, parted_end, without_one, placed_without, placed_new, named_without, without_ascending}

@@ -10,17 +10,25 @@
 //!          02, the length of the name, the name, 00 to the end                                        a setting was deleted
 //! ```
 //!
-//! There is no `save` yet. One in which one name differs will append one cell, one in which nothing differs will do nothing, and
-//! every other one will replace the side by the stored form of the running map.
+//! A save in which one name differs appends one cell, one in which nothing differs does nothing, and every other one, and one
+//! for which no cell is free, replaces the side by the stored form of the running map.
 #![tactic(auto)]
 
 mod cell;
+mod difference;
 mod entry;
 mod fault;
 mod form;
+mod laws;
 mod saved;
 mod settings;
 mod table;
+#[cfg(test)]
+mod tests;
 
 pub use fault::SettingFault;
+pub use laws::{
+    saved_settings_are_told_apart, saved_settings_are_within_the_limits,
+    settings_outlast_other_changes,
+};
 pub use settings::Settings;

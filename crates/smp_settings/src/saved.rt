@@ -8,7 +8,7 @@ ghost use Rattle.smp_gate.specs.Fault.{bank_end};
 ghost use Rattle.smp_gate.specs.Newest.{Fits, sides};
 ghost use Rattle.smp_model.specs.Settings.{is_within_limits};
 ghost use Rattle.smp_settings.specs.Found.{CellsGive, HoldsBank};
-ghost use Rattle.smp_settings.specs.Saved.{SavedStand, SavedReadable};
+ghost use Rattle.smp_settings.specs.Saved.{SavedStand, SavedReadable, opening_reads};
 
 use crate::cell::{CELL, apply_cell};
 use crate::form::read_form;
@@ -59,6 +59,7 @@ pub fn find_saved<F: Flash>(flash: &mut F, layout: &Layout) -> Result<Found, Ban
     requires layout { geometry_of layout.now ≡ (F.state flash.old).geometry }
     ensures calls { Calls (bank_spots (settings_of layout.now)) (bank_end result) (F.state flash.old) (F.state flash.new) }
     ensures kept { (F.state flash.new).bytes ≡ (F.state flash.old).bytes }
+    ensures reads { IfOk result (λ found. ReadsAtMost (opening_reads found.bank) (F.state flash.old).bytes_read (F.state flash.new).bytes_read) }
     ensures changes { ChangesAtMost 0 0 (F.state flash.old).changes (F.state flash.new).changes }
     ensures bank { IfOk result (λ found. HoldsBank found.bank layout.now) }
     ensures says { IfOk result (λ found. IfSome (F.state flash.new).bytes (BankSays found.bank)) }

@@ -1,5 +1,4 @@
 use Rattle.std.proofs.Common.{◌≡◌, ◌∙◌, ap, subst, true, Some}
-use Rattle.smp_model.specs.Settings.{is_setting, setting}
 use Rattle.smp_settings.specs.Cells.{changed_by, is_change}
 use Rattle.smp_settings.specs.Changes.{change_said}
 use Rattle.smp_settings.specs.declared.cell.Change.{Change}

@@ -1,5 +1,5 @@
-use Rattle.std.proofs.Common.{◌≡◌, ◌<◌, ◌≤◌, length, Bool, true, false, arith, refl}
-use Rattle.std.specs.Str.{is_utf8, IsUtf8}
+use Rattle.std.proofs.Common.{◌≡◌, Bool, true, false, arith, refl}
+use Rattle.std.specs.Str.{is_utf8}
 use Rattle.std.proofs.lemmas.Bool.Decides.{nat_tests}
 use Rattle.std.proofs.lemmas.Str.{IsUtf8-from_is_utf8, is_utf8-from_IsUtf8}
 use Rattle.smp_settings.proofs.Forms.{text_taken, text_refused}

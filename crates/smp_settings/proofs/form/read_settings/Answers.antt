@@ -1,7 +1,6 @@
-use Rattle.std.proofs.Common.{◌≡◌, ◌<◌, ◌∙◌, sym, subst, length, arith, Bool, true, false}
+use Rattle.std.proofs.Common.{arith}
 use Rattle.std.proofs.lemmas.Bool.Decides.{nat_tests}
 use Rattle.smp_model.specs.Settings.{setting}
-use Rattle.smp_settings.specs.Reading.{TakenWhere}
 use Rattle.smp_settings.proofs.Forms.{one_more, none_next, not_taken, all_read}
 use Rattle.smp_settings.proofs.form.read_settings.Goals as goal
 

@@ -1,4 +1,4 @@
-use Rattle.std.proofs.Common.{◌≡◌, ◌<◌, ◌∙◌, sym, length, arith, true}
+use Rattle.std.proofs.Common.{arith}
 use Rattle.smp_settings.proofs.Forms.{taken}
 use Rattle.smp_settings.proofs.form.take_setting.Goals as goal
 

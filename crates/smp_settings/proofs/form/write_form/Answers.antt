@@ -1,5 +1,5 @@
-use Rattle.std.proofs.Common.{◌≡◌, ◌≤◌, ◌+◌, ◌∙◌, sym, ap, length, arith}
-use Rattle.smp_model.specs.Settings.{stored_setting, stored_form}
+use Rattle.std.proofs.Common.{ap, length, arith}
+use Rattle.smp_model.specs.Settings.{stored_form}
 use Rattle.smp_settings.proofs.Forms.{form_room}
 use Rattle.smp_settings.proofs.form.write_form.Goals as goal
 

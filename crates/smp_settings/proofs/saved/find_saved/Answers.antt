@@ -1,8 +1,7 @@
-use Rattle.std.proofs.Common.{◌≡◌, ◌∙◌, sym, ap, subst, refl, Bool, List, ℕ}
+use Rattle.std.proofs.Common.{◌∙◌, ap, subst, refl, Bool}
 use Rattle.std.specs.Prelude.{IfSome}
 use Rattle.smp_settings.specs.Found.{CellsGive}
 use Rattle.smp_flash.proofs.Passing.{Calls-after}
-use Rattle.smp_flash.specs.Layout.{settings_of, bank_spots}
 use Rattle.smp_gate.specs.Bank.{BankState}
 use Rattle.smp_settings.proofs.Saving.{sides_are, holds_bank, refused_body_told, refused_cells_told, found_saved_told}
 use Rattle.smp_settings.proofs.saved.find_saved.Goals as goal

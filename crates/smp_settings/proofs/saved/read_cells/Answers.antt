@@ -1,7 +1,5 @@
-use Rattle.std.proofs.Common.{◌≡◌, ◌≤◌, ◌+◌, ◌*◌, ◌∙◌, sym, List, ℕ, arith}
-use Rattle.std.specs.Prelude.{IfSome, Some}
+use Rattle.std.proofs.Common.{◌≡◌, ◌+◌, ◌*◌, ◌∙◌, arith}
 use Rattle.smp_flash.proofs.Passing.{Calls-after, reads_add, changes_add}
-use Rattle.smp_flash.proofs.Telling.{IfSome-same}
 use Rattle.smp_settings.proofs.Saving.{first_told, refused_told, all_told}
 use Rattle.smp_settings.proofs.saved.read_cells.Goals as goal
 

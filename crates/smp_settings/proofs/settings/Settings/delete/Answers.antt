@@ -1,4 +1,4 @@
-use Rattle.std.proofs.Common.{◌≡◌, ◌∙◌, ap}
+use Rattle.std.proofs.Common.{◌∙◌, ap}
 use Rattle.smp_model.specs.Settings.{is_within_limits}
 use Rattle.smp_settings.proofs.Limits.{deleted_within}
 use Rattle.smp_settings.proofs.settings.Settings.delete.Goals as goal

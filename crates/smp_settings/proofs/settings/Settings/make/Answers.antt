@@ -1,4 +1,4 @@
-use Rattle.std.proofs.Common.{◌≡◌, ◌∙◌, sym, ap, refl, List, ℕ, []}
+use Rattle.std.proofs.Common.{◌∙◌, ap, refl}
 use Rattle.smp_gate.specs.Bank.{BankState}
 use Rattle.smp_model.specs.Settings.{stored_form}
 use Rattle.smp_settings.proofs.Saving.{made_says, made_side}

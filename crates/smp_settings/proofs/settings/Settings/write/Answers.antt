@@ -1,7 +1,7 @@
-use Rattle.std.proofs.Common.{◌≡◌, ◌<◌, ◌∙◌, ap, length, true, false, arith}
+use Rattle.std.proofs.Common.{◌≡◌, ◌<◌, length, true, arith}
 use Rattle.std.proofs.lemmas.Bool.Decides.{nat_tests}
 use Rattle.std.proofs.lemmas.Str.{is_utf8-from_IsUtf8}
-use Rattle.smp_model.specs.Settings.{is_within_limits, is_full, is_setting, setting}
+use Rattle.smp_model.specs.Settings.{is_setting, setting}
 use Rattle.smp_settings.proofs.Changing.{given_room, given_made}
 use Rattle.smp_settings.proofs.Saving.{lawful_setting}
 use Rattle.smp_settings.proofs.settings.Settings.write.Goals as goal

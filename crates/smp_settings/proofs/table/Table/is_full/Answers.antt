@@ -1,4 +1,3 @@
-use Rattle.std.proofs.Common.{◌≡◌, ◌∙◌, sym}
 use Rattle.smp_settings.proofs.Forms.{full_by}
 use Rattle.smp_settings.proofs.table.Table.is_full.Goals as goal
 

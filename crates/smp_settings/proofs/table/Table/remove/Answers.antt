@@ -1,4 +1,4 @@
-use Rattle.std.proofs.Common.{◌≡◌, ◌∙◌, sym}
+use Rattle.std.proofs.Common.{◌∙◌, sym}
 use Rattle.smp_model.specs.declared.setting.Setting.{Setting}
 use Rattle.smp_settings.proofs.Naming.{without_none}
 use Rattle.smp_settings.proofs.Tables.{removed_at}
