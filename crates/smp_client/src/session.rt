@@ -106,7 +106,6 @@ impl Session {
     /// A session whose packets have these version bits: 0 for version 1 of the protocol, 1 for version 2. Its first request
     /// has the sequence number 0.
     pub fn new(version: u8) -> Session
-        requires { version ≤ 1 }
         ensures { result ≡ new_session version }
     {
         Session {

@@ -3,3 +3,5 @@ pub mod Cuts
 pub mod Numbers
 pub mod Settings
 pub mod Events
+pub mod Longest
+pub mod Drawing

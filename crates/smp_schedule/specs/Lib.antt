@@ -3,3 +3,4 @@ pub mod Words
 pub mod Jobs
 pub mod Events
 pub mod Schedules
+pub mod Generated

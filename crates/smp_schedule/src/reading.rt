@@ -1,5 +1,5 @@
 // The events of lines.
-ghost use Rattle.std.specs.Prelude.{◌≡◌, ◌+◌, ◌<◌, Some, IfOk, option_map};
+ghost use Rattle.std.specs.Prelude.{◌≡◌, ◌+◌, ◌<◌, length, Some, IfOk, MatchOption, option_map};
 ghost use Rattle.std.specs.Option.{option_and_then};
 ghost use Rattle.smp_schedule.specs.declared.event.Event.TheVariants as events;
 ghost use Rattle.smp_schedule.specs.Fields.{fields_of, only};
@@ -141,15 +141,21 @@ fn read_boot(fields: &mut Fields<'_>) -> Option<Event>
     }
 }
 
-/// Copies of the fields that are left.
-fn collect(alloc: Global, fields: &mut Fields<'_>) -> Result<Vec<Octets>, AllocError>
-    ensures { IfOk result (λ words. words.items ≡ fields.old) }
+/// The most words of a job: `set`, and 254 names and values.
+const MOST_WORDS: usize = 509;
+
+/// Copies of the fields that are left, where they are no more than a job can have.
+fn collect(alloc: Global, fields: &mut Fields<'_>) -> Result<Option<Vec<Octets>>, AllocError>
+    ensures { IfOk result (λ words. MatchOption words (509 < length fields.old) (λ words. words.items ≡ fields.old)) }
 {
     let mut words = Vec::new(alloc);
     'fields: while let Some(field) = fields.next() {
+        if words.len() == MOST_WORDS {
+            return Ok(None);
+        }
         words.push(Octets::from_slice(alloc, field)?)?;
     }
-    Ok(words)
+    Ok(Some(words))
 }
 
 fn client_job(
@@ -183,8 +189,10 @@ fn read_client(
     if clients >= MOST_CLIENTS {
         return Ok(None);
     }
-    let words = collect(alloc, fields)?;
-    client_job(alloc, clients, number, words.as_slice())
+    match collect(alloc, fields)? {
+        Some(words) => client_job(alloc, clients, number, words.as_slice()),
+        None => Ok(None),
+    }
 }
 
 /// The event of a line by its first word.

@@ -30,6 +30,16 @@ impl Model for Schedule {
 }
 
 impl Schedule {
+    /// The schedule of these events, with no flash line.
+    pub(crate) fn new(events: Vec<Event>) -> Schedule
+        ensures { result ≡ record { flash = None; events = events.items } }
+    {
+        Schedule {
+            flash: None,
+            events,
+        }
+    }
+
     /// The flash line, None exactly where there is none.
     pub fn flash(&self) -> Option<&FlashLine>
         ensures { option_map (λ f. f.now) result ≡ self.now.flash }

@@ -1,7 +1,8 @@
 // Lines inside and outside the grammar, worked out by hand from its tables.
 
-use crate::{ScheduleFault, read_schedule};
-use std::alloc::Global;
+use crate::{Event, ScheduleFault, Which, generate, generated_payload, read_schedule};
+use std::alloc::{AllocError, Global};
+use std::test::Fail;
 
 /// How many events a text has, or why it is no schedule.
 fn count_of(alloc: Global, text: &str) -> Result<usize, ScheduleFault> {
@@ -96,4 +97,157 @@ fn refuses_other_words(rt: HostRuntime) {
         let want = Err(ScheduleFault::BadLine(1));
         assert_eq!(rt; count_of(rt.alloc(), text), want, "{text}");
     }
+}
+
+/// The first lines outside the grammar of schedules that were made to be refused.
+#[test]
+fn refuses_worked_lines(rt: HostRuntime) {
+    for (text, line) in [
+        (
+            "client 1 list\nclient 2 list\nclient 1 upload a 32 Only\n",
+            3,
+        ),
+        ("raw 00\nboot 1\n", 2),
+        (
+            "client 1 upload app1.img 240 only\nup new\ndown new\nraw 0200000100010e05a0\ndown new\r\n",
+            5,
+        ),
+        ("client 1 upload a 31 only\n", 1),
+        ("client 1 list\nraw 0G\n", 2),
+        ("\n\nboo\n", 3),
+        (
+            "client 1 list\nraw 0A00001A0008CC00A4636F666600636C656E1907D0646E616D6561616464617461400\n",
+            2,
+        ),
+        (
+            "raw 0200002200080800a364646174615a0000000390a266646e616d6561617b00000000000000036f6666000\n",
+            1,
+        ),
+        ("client 1 list\nclient 1 echo \u{7f}\n", 2),
+    ] {
+        let want = Err(ScheduleFault::BadLine(line));
+        assert_eq!(rt; count_of(rt.alloc(), text), want, "{text}");
+    }
+}
+
+/// So many copies of a text.
+fn repeated(alloc: Global, text: &str, count: u32) -> Result<String, AllocError> {
+    let mut all = String::new(alloc);
+    for _ in 0..count {
+        all.push_str(text)?;
+    }
+    Ok(all)
+}
+
+#[test]
+fn reads_as_many_events_as_there_may_be(rt: HostRuntime) -> Result<(), Fail> {
+    let mut text = repeated(rt.alloc(), "up new\n", 100_000)?;
+    assert_eq!(rt; count_of(rt.alloc(), text.as_str()), Ok(100_000));
+    text.push_str("#\nboot")?;
+    assert_eq!(rt;
+        count_of(rt.alloc(), text.as_str()),
+        Err(ScheduleFault::BadLine(100_002))
+    );
+    Ok(())
+}
+
+#[test]
+fn reads_as_many_settings_as_there_may_be(rt: HostRuntime) -> Result<(), Fail> {
+    let alloc = rt.alloc();
+    let pairs = repeated(alloc, " a 01", 254)?;
+    let text = format!(in alloc; "client 1 set{pairs}\nup new")?;
+    assert_eq!(rt; count_of(alloc, text.as_str()), Ok(2));
+    let text = format!(in alloc; "client 1 set{pairs} b -")?;
+    assert_eq!(rt;
+        count_of(alloc, text.as_str()),
+        Err(ScheduleFault::BadLine(1))
+    );
+    let text = repeated(alloc, "client 1 ", 100_000)?;
+    assert_eq!(rt;
+        count_of(alloc, text.as_str()),
+        Err(ScheduleFault::BadLine(1))
+    );
+    Ok(())
+}
+
+#[test]
+fn says_why_a_text_is_no_schedule(rt: HostRuntime) -> Result<(), Fail> {
+    let alloc = rt.alloc();
+    let bad = ScheduleFault::BadLine(12);
+    assert_eq!(rt; format!(in alloc; "{bad}")?.as_str(), "BadLine 12");
+    let none = ScheduleFault::OutOfMemory;
+    assert_eq!(rt; format!(in alloc; "{none}")?.as_str(), "OutOfMemory");
+    Ok(())
+}
+
+/// The letter and the number of an event: 0 stands for the newest.
+fn code_of(event: &Event) -> (char, u32) {
+    match event {
+        Event::Client { number, .. } => ('c', u32::from(*number)),
+        Event::Raw(_) => ('r', 0),
+        Event::Up(Which::New) => ('u', 0),
+        Event::Up(Which::Number(number)) => ('u', *number),
+        Event::Down(Which::New) => ('d', 0),
+        Event::Down(Which::Number(number)) => ('d', *number),
+        Event::Quiet(number) => ('q', u32::from(*number)),
+        Event::Armed(arm) => ('a', arm.after),
+        Event::Boot => ('b', 0),
+    }
+}
+
+/// The events that a program which shares nothing with this one draws of the seed 1.
+const DRAWN: [(char, u32); 25] = [
+    ('c', 1),
+    ('u', 0),
+    ('d', 0),
+    ('u', 0),
+    ('d', 0),
+    ('q', 1),
+    ('q', 1),
+    ('u', 0),
+    ('d', 0),
+    ('u', 0),
+    ('d', 0),
+    ('u', 1),
+    ('b', 0),
+    ('u', 0),
+    ('b', 0),
+    ('u', 58),
+    ('d', 0),
+    ('q', 1),
+    ('u', 0),
+    ('d', 0),
+    ('u', 53),
+    ('u', 0),
+    ('u', 18),
+    ('d', 0),
+    ('b', 0),
+];
+
+/// How many events are those that were drawn.
+fn drawn_alike(events: &[Event]) -> usize {
+    for (i, event) in events.iter().enumerate() {
+        let (letter, number) = code_of(event);
+        if i >= DRAWN.len() || letter != DRAWN[i].0 || number != DRAWN[i].1 {
+            return i;
+        }
+    }
+    events.len()
+}
+
+#[test]
+fn generates_events(rt: HostRuntime) -> Result<(), Fail> {
+    let schedule = generate(rt.alloc(), 1, 24)?;
+    assert_eq!(rt; drawn_alike(schedule.events()), 25);
+    assert_eq!(rt; schedule.events().len(), 25);
+    Ok(())
+}
+
+#[test]
+fn generates_a_payload(rt: HostRuntime) -> Result<(), Fail> {
+    let payload = generated_payload(rt.alloc(), 1)?;
+    assert_eq!(rt; payload.as_slice().len(), 4000);
+    let begin = [0x88, 0x88, 0x16, 0x73, 0xf0, 0x98, 0x56, 0x62];
+    assert!(rt; payload.as_slice().starts_with(&begin));
+    Ok(())
 }

@@ -1,0 +1,9 @@
+pub mod Texts
+pub mod Settings
+pub mod Listing
+pub mod Rooms
+pub mod Opens
+pub mod Falling
+pub mod Sounding
+pub mod Turning
+pub mod Ends
