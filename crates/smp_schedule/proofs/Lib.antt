@@ -5,3 +5,4 @@ pub mod Settings
 pub mod Events
 pub mod Longest
 pub mod Drawing
+pub mod Pieces

@@ -4,3 +4,6 @@ pub mod Jobs
 pub mod Events
 pub mod Schedules
 pub mod Generated
+pub mod Written
+pub mod Lawful
+pub mod Puts

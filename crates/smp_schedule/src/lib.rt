@@ -25,9 +25,12 @@ mod generating;
 mod generator;
 mod job;
 mod job_reading;
+mod job_writing;
+mod putting;
 mod reading;
 mod schedule;
 mod words;
+mod writing;
 
 pub use event::{Event, Which};
 pub use fault::ScheduleFault;
@@ -36,6 +39,7 @@ pub use generating::{generate, generated_payload};
 pub use job::JobWords;
 pub use job_reading::read_job;
 pub use schedule::{Schedule, read_schedule};
+pub use writing::write_schedule;
 
 #[cfg(test)]
 mod tests;

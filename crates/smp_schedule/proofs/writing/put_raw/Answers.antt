@@ -1,0 +1,17 @@
+use Rattle.std.proofs.Common.{refl}
+use Rattle.smp_schedule.proofs.Pieces.{first_put, first_fails, more_put, put_fails, last_put}
+use Rattle.smp_schedule.proofs.writing.put_raw.Goals as goal
+
+pub returns-in_err-put_bytes : goal.returns-in_err-put_bytes
+returns-in_err-put_bytes g c = first_fails _ _ _ _ _ _ _ _ _ _ c.in_err-put_bytes.was c.put_bytes.ensures refl c.from_residual.ensures.0
+
+pub returns-in_err-put_hex : goal.returns-in_err-put_hex
+returns-in_err-put_hex g c =
+    put_fails _ _ _ _ _ _ _ _ _ _ _ _ _ (first_put _ _ _ _ _ _ _ _ c.in_ok-put_bytes.was c.put_bytes.ensures refl)
+    c.in_err-put_hex.was c.put_hex.ensures refl c.from_residual-in_err-put_hex.ensures.0
+
+pub returns : goal.returns
+returns g c =
+    last_put _ _ _ _ _ _ _ _ _
+    (more_put _ _ _ _ _ _ _ _ _ _ _ (first_put _ _ _ _ _ _ _ _ c.in_ok-put_bytes.was c.put_bytes.ensures refl) c.in_ok-put_hex.was c.put_hex.ensures refl)
+    c.put_bytes-2.ensures
