@@ -3,7 +3,7 @@ use Rattle.std.proofs.Common.{◌≡◌, ℕ, zero, suc, ◌+◌, ◌<◌, false
 use Rattle.smp_schedule.specs.Fields.{lines_of, fields_of, onto_first}
 
 -- another byte goes onto the first line
-other_byte : (x : ℕ) (xs : List ℕ) → (x ≡ 10 → ⊥) → lines_of (x ∷ xs) ≡ onto_first x (lines_of xs)
+pub other_byte : (x : ℕ) (xs : List ℕ) → (x ≡ 10 → ⊥) → lines_of (x ∷ xs) ≡ onto_first x (lines_of xs)
 other_byte x xs other = let e : eqb x 10 ≡ false = grind arith in rw e refl
 
 pub line_at : (b : List ℕ) (i : ℕ) → i < length b → get_or b i 0 ≡ 10 → ((k : ℕ) → k < i → get_or b k 0 ≡ 10 → ⊥)
@@ -28,7 +28,7 @@ line_found b after i h e first is =
     line_at b i h e first ∙ ap (λ (rest : List ℕ). take i b ∷ lines_of rest) next
 
 -- The same of fields, which end at a space.
-other_field : (x : ℕ) (xs : List ℕ) → (x ≡ 32 → ⊥) → fields_of (x ∷ xs) ≡ onto_first x (fields_of xs)
+pub other_field : (x : ℕ) (xs : List ℕ) → (x ≡ 32 → ⊥) → fields_of (x ∷ xs) ≡ onto_first x (fields_of xs)
 other_field x xs other = let e : eqb x 32 ≡ false = grind arith in rw e refl
 
 field_at : (b : List ℕ) (i : ℕ) → i < length b → get_or b i 0 ≡ 32 → ((k : ℕ) → k < i → get_or b k 0 ≡ 32 → ⊥)

@@ -6,3 +6,6 @@ pub mod Events
 pub mod Longest
 pub mod Drawing
 pub mod Pieces
+pub mod Splitting
+pub mod Spelling
+pub mod Again
