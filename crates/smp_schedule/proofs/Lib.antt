@@ -9,3 +9,5 @@ pub mod Pieces
 pub mod Splitting
 pub mod Spelling
 pub mod Again
+pub mod ReadWords
+pub mod ReadLines

@@ -26,7 +26,7 @@ first_true false b h = absurd cc
 spelled : (low high n : ℕ) (bytes : List ℕ) → is_number low high n bytes ≡ true → decimal n ≡ bytes
 spelled low high n bytes h = (bytes_eq-Decides (decimal n) bytes).0 (first_true (bytes_eq (decimal n) bytes) (nat_le low n && nat_le n high) h)
 
-within : (low high n : ℕ) (bytes : List ℕ) → is_number low high n bytes ≡ true → (low ≤ n) × (n ≤ high)
+pub within : (low high n : ℕ) (bytes : List ℕ) → is_number low high n bytes ≡ true → (low ≤ n) × (n ≤ high)
 within low high n bytes h = (grind (arith, h), grind (arith, h))
 
 pub found : (low high n : ℕ) (bytes : List ℕ) → n < 2 ^ 32 → is_number low high n bytes ≡ true → Some n ≡ number_in low high bytes
