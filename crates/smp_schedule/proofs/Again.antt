@@ -23,7 +23,7 @@ use Rattle.smp_schedule.specs.Words.{number_in, name_in, word_in}
 use Rattle.smp_schedule.specs.Jobs.{pairs_in, pair_in, with_pair, set_with, set_in, upload_in, upload_with, image_in, value_in, put_in, get_in, echo_in, job_in}
 use Rattle.smp_schedule.specs.Events.{event_in, client_of, client_with, arm_of, arm_with, arm_left, left_of, geometry, flash_with, flash_in}
 use Rattle.smp_schedule.specs.Schedules.{Schedule, schedule, schedule_from, begun, under, events_from, onto_events, event_at, clients_with, clients_after}
-use Rattle.smp_schedule.specs.Lawful.{IsBetween, IsField, IsName, IsSized, IsWhich, IsPair, ArePairs, IsJob, IsLeft, IsArm, IsEvent, AreEvents, IsSecond, IsFlash, IsLawful, WrittenIsRead}
+use Rattle.smp_schedule.specs.Lawful.{IsBetween, IsField, IsName, IsSized, IsWhich, IsPair, ArePairs, IsJob, IsLeft, IsArm, IsEvent, AreEvents, IsSecond, IsFlash, IsLawful}
 use Rattle.smp_schedule.specs.Written.{line_of, which_word, left_word, left_words, arm_words, image_words, value_word, pair_words, job_words, event_words, flash_words, event_lines, flash_text, schedule_text}
 use Rattle.smp_schedule.proofs.Splitting.{IsClear, AreClear, joined, line_again, fields_again, left_true, right_true}
 use Rattle.smp_schedule.proofs.Spelling.{number_again, decimal_clear, which_again, which_clear, hex_again, hex_clear, value_again, value_clear, word_again, name_again, field_clear, region_again, region_clear, kind_again, kind_clear, ending_again, ending_clear, left_again, left_clear}
@@ -263,5 +263,5 @@ again : (flash : Option FlashLine) (es : List Event) → ForSome flash IsFlash �
 again None es is are room = without_flash es are room
 again (Some flash) es is are room = with_flash flash es (is flash refl) are room
 
-pub written_is_read : WrittenIsRead
+pub written_is_read : (s : Schedule) → IsLawful s → schedule (schedule_text s) ≡ Ok s
 written_is_read s is = again s.flash s.events is.flash is.events is.count

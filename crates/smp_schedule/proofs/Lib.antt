@@ -11,3 +11,4 @@ pub mod Spelling
 pub mod Again
 pub mod ReadWords
 pub mod ReadLines
+pub mod Drawn

@@ -33,7 +33,7 @@ use Rattle.smp_schedule.specs.Words.{is_word, name_in, word_in, is_number, numbe
 use Rattle.smp_schedule.specs.Jobs.{chunk_in, image_in, upload_with, upload_in, list_in, value_in, pair_in, with_pair, pairs_in, set_with, set_in, put_with, put_in, get_in, echo_in, job_in}
 use Rattle.smp_schedule.specs.Events.{which_in, which_of, client_with, client_of, left_of, arm_left, arm_with, arm_of, boot_of, event_in, geometry, flash_line, flash_one, flash_two, flash_with, flash_of, flash_in}
 use Rattle.smp_schedule.specs.Schedules.{Schedule, schedule, schedule_from, begun, under, events_from, onto_events, event_at, clients_with, clients_after}
-use Rattle.smp_schedule.specs.Lawful.{IsBetween, is_no_space, IsField, IsName, IsSized, IsWhich, IsPair, ArePairs, IsJob, IsLeft, IsArm, IsEvent, AreEvents, IsSecond, IsFlash, IsLawful, ReadIsLawful}
+use Rattle.smp_schedule.specs.Lawful.{IsBetween, is_no_space, IsField, IsName, IsSized, IsWhich, IsPair, ArePairs, IsJob, IsLeft, IsArm, IsEvent, AreEvents, IsSecond, IsFlash, IsLawful}
 use Rattle.smp_schedule.proofs.Numbers.{within}
 use Rattle.smp_schedule.proofs.Splitting.{left_true, right_true, both_true}
 

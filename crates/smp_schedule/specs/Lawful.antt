@@ -1,5 +1,5 @@
 -- The schedules that the grammar has: each number is within its bounds, and each name is a word with no space.
-use Rattle.std.specs.Prelude.{Bool, true, ◌≡◌, ◌==◌, ◌&&◌, not, ℕ, ◌+◌, ◌≤◌, List, [], ◌∷◌, length, Option, Some, None, Result, Ok}
+use Rattle.std.specs.Prelude.{Bool, true, ◌≡◌, ◌==◌, ◌&&◌, not, ℕ, ◌+◌, ◌≤◌, List, [], ◌∷◌, length, Option, Some, None}
 use Rattle.std.specs.List.{list_all}
 use Rattle.std.specs.Option.{ForSome}
 use Rattle.hex.specs.Hex.{IsBytes}
@@ -18,8 +18,7 @@ use Rattle.smp_schedule.specs.declared.flash_line.FlashLine.{FlashLine}
 use Rattle.smp_schedule.specs.declared.job.JobWords.{JobWords}
 use Rattle.smp_schedule.specs.declared.job.JobWords.TheVariants as jobs
 use Rattle.smp_schedule.specs.Words.{is_word}
-use Rattle.smp_schedule.specs.Schedules.{Schedule, schedule, clients_after}
-use Rattle.smp_schedule.specs.Written.{schedule_text}
+use Rattle.smp_schedule.specs.Schedules.{Schedule, clients_after}
 
 abbrev pub IsBetween : ℕ → ℕ → ℕ → Type 0
 IsBetween low high n = (low ≤ n) × (n ≤ high)
@@ -92,11 +91,3 @@ pub record IsLawful (s : Schedule) : Type 0 where
   pub flash : ForSome s.flash IsFlash
   pub events : AreEvents 0 s.events
   pub count : length s.events ≤ 100000
-
--- Reading what a lawful schedule is written as gives the schedule.
-abbrev pub WrittenIsRead : Type 0
-WrittenIsRead = (s : Schedule) → IsLawful s → schedule (schedule_text s) ≡ Ok s
-
--- What is read is lawful.
-abbrev pub ReadIsLawful : Type 0
-ReadIsLawful = (text : List ℕ) (s : Schedule) → schedule text ≡ Ok s → IsLawful s

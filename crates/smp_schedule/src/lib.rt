@@ -26,6 +26,7 @@ mod generator;
 mod job;
 mod job_reading;
 mod job_writing;
+mod laws;
 mod putting;
 mod reading;
 mod schedule;
@@ -38,6 +39,7 @@ pub use flash_line::FlashLine;
 pub use generating::{generate, generated_payload};
 pub use job::JobWords;
 pub use job_reading::read_job;
+pub use laws::{generated_is_lawful, read_is_lawful, written_is_read};
 pub use schedule::{Schedule, read_schedule};
 pub use writing::write_schedule;
 
