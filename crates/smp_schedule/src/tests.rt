@@ -4,6 +4,8 @@ use crate::{Event, ScheduleFault, Which, generate, generated_payload, read_sched
 use std::alloc::{AllocError, Global};
 use std::test::Fail;
 
+mod writing;
+
 /// How many events a text has, or why it is no schedule.
 fn count_of(alloc: Global, text: &str) -> Result<usize, ScheduleFault> {
     if text.len() > 1_000_000 {
@@ -128,6 +130,34 @@ fn refuses_worked_lines(rt: HostRuntime) {
         let want = Err(ScheduleFault::BadLine(line));
         assert_eq!(rt; count_of(rt.alloc(), text), want, "{text}");
     }
+}
+
+/// Lines outside the grammar that were made to be refused, each at a line of this number.
+#[test]
+fn names_worked_lines(rt: HostRuntime) -> Result<(), Fail> {
+    for (number, line) in [
+        (5, "down new\r"),
+        (7, "client 1 echo \u{7f}"),
+        (8, "client 1 upload a 32 Only"),
+        (
+            12,
+            "raw 0200002200080800a364646174615a0000000390a266646e616d6561617b00000000000000036f6666000",
+        ),
+        (17, "boot 1"),
+        (93, "boo"),
+        (165, "client 1 upload a 31 only"),
+        (653, "raw 0G"),
+        (
+            731,
+            "raw 0A00001A0008CC00A4636F666600636C656E1907D0646E616D6561616464617461400",
+        ),
+    ] {
+        let front = repeated(rt.alloc(), "boot\n", number - 1)?;
+        let text = format!(in rt.alloc(); "{front}{line}\nboot\n")?;
+        let want = Err(ScheduleFault::BadLine(number));
+        assert_eq!(rt; count_of(rt.alloc(), text.as_str()), want, "{line}");
+    }
+    Ok(())
 }
 
 /// So many copies of a text.
