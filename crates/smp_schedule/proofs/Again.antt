@@ -1,10 +1,9 @@
 -- A lawful schedule is read again from its text.
-use Rattle.std.proofs.Common.{◌≡◌, ℕ, zero, suc, ◌+◌, ◌<◌, ◌≤◌, ◌^◌, Bool, true, false, List, [], ◌∷◌, ◌++◌, length, codes, Option, Some, None, Result, Ok, Err, refl, sym, ap, ◌∙◌, subst, arith, add-one, append-nil}
-use Rattle.std.specs.Prelude.{◌&&◌, nat_le, nat_lt, if◌then◌else◌}
-use Rattle.std.specs.Option.{ForSome, option_map, option_and_then, option_to_list}
+use Rattle.std.proofs.Common.{◌≡◌, ℕ, zero, suc, ◌+◌, ◌<◌, ◌≤◌, true, false, List, [], ◌∷◌, ◌++◌, length, Option, Some, None, Ok, refl, sym, ap, ◌∙◌, subst, arith}
+use Rattle.std.specs.Prelude.{◌&&◌, nat_le, nat_lt}
+use Rattle.std.specs.Option.{ForSome, option_to_list}
 use Rattle.std.specs.Fmt.{decimal}
 use Rattle.std.proofs.lemmas.Bool.Decides.{nat_tests}
-use Rattle.hex.specs.Hex.{encode_lower}
 use Rattle.smp_flash.specs.Geometry.{is_page, is_unit, are_slot_pages, are_images, is_lawful}
 use Rattle.smp_flash.specs.declared.geometry.Geometry.{Geometry}
 use Rattle.smp_flash.specs.declared.arm.Arm.{Arm}
@@ -18,14 +17,13 @@ use Rattle.smp_schedule.specs.declared.event.Event.TheVariants as events
 use Rattle.smp_schedule.specs.declared.flash_line.FlashLine.{FlashLine}
 use Rattle.smp_schedule.specs.declared.job.JobWords.{JobWords}
 use Rattle.smp_schedule.specs.declared.job.JobWords.TheVariants as jobs
-use Rattle.smp_schedule.specs.Fields.{lines_of, is_skipped, fields_of}
-use Rattle.smp_schedule.specs.Words.{number_in, name_in, word_in}
-use Rattle.smp_schedule.specs.Jobs.{pairs_in, pair_in, with_pair, set_with, set_in, upload_in, upload_with, image_in, value_in, put_in, get_in, echo_in, job_in}
-use Rattle.smp_schedule.specs.Events.{event_in, client_of, client_with, arm_of, arm_with, arm_left, left_of, geometry, flash_with, flash_in}
+use Rattle.smp_schedule.specs.Fields.{lines_of, is_skipped}
+use Rattle.smp_schedule.specs.Jobs.{pairs_in, set_with, image_in, job_in}
+use Rattle.smp_schedule.specs.Events.{event_in, client_of, arm_of, left_of, geometry, flash_with, flash_in}
 use Rattle.smp_schedule.specs.Schedules.{Schedule, schedule, schedule_from, begun, under, events_from, onto_events, event_at, clients_with, clients_after}
-use Rattle.smp_schedule.specs.Lawful.{IsBetween, IsField, IsName, IsSized, IsWhich, IsPair, ArePairs, IsJob, IsLeft, IsArm, IsEvent, AreEvents, IsSecond, IsFlash, IsLawful}
-use Rattle.smp_schedule.specs.Written.{line_of, which_word, left_word, left_words, arm_words, image_words, value_word, pair_words, job_words, event_words, flash_words, event_lines, flash_text, schedule_text}
-use Rattle.smp_schedule.proofs.Splitting.{IsClear, AreClear, joined, line_again, fields_again, left_true, right_true}
+use Rattle.smp_schedule.specs.Lawful.{IsBetween, IsField, ArePairs, IsJob, IsLeft, IsArm, IsEvent, AreEvents, IsSecond, IsFlash, IsLawful}
+use Rattle.smp_schedule.specs.Written.{line_of, left_words, arm_words, image_words, pair_words, job_words, event_words, flash_words, event_lines, flash_text, schedule_text}
+use Rattle.smp_schedule.proofs.Splitting.{AreClear, joined, line_again, fields_again, left_true, right_true}
 use Rattle.smp_schedule.proofs.Spelling.{number_again, decimal_clear, which_again, which_clear, hex_again, hex_clear, value_again, value_clear, word_again, name_again, field_clear, region_again, region_clear, kind_again, kind_clear, ending_again, ending_clear, left_again, left_clear}
 
 at_most : (a b : ℕ) → a ≤ b → nat_le a b ≡ true
@@ -103,8 +101,11 @@ arm_again arm is =
 client_again : (clients number : ℕ) (job : JobWords) → (number ≡ clients + 1) × (number ≤ 8) × IsJob job
     → client_of clients (decimal number ∷ job_words job) ≡ Some (events.Client number job)
 client_again clients number job is =
-    rw (below clients 8 (omega (arith, is.0, is.1)),
-      number_again (clients + 1) (clients + 1) number (omega (arith, is.0, is.1)) (omega (arith, is.0), omega (arith, is.0)), job_again job is.2) refl
+    rw (
+      below clients 8 (omega (arith, is.0, is.1)),
+      number_again (clients + 1) (clients + 1) number (omega (arith, is.0, is.1)) (omega (arith, is.0), omega (arith, is.0)),
+      job_again job is.2,
+    ) refl
 
 event_again : (clients : ℕ) (event : Event) → clients ≤ 8 → IsEvent clients event → event_in clients (event_words event) ≡ Some event
 event_again clients (events.Client number job) few is = client_again clients number job is
@@ -235,16 +236,23 @@ second_clear images (Some second) is = (field_clear second is.1, tt)
 flash_clear : (flash : FlashLine) → IsFlash flash → AreClear (flash_words flash)
 flash_clear flash is =
     let g = flash.geometry in
-    let most = sizes g is.0 in
-    (refl, (decimal_clear g.page (omega (arith, most.page.1)), (decimal_clear g.unit (omega (arith, most.unit.1)),
-      (decimal_clear g.slot_pages (omega (arith, most.pages.1)), (field_clear flash.image is.1, second_clear g.images flash.second is.2)))))
+    let most = sizes g is.0 in (
+      refl,
+      (
+        decimal_clear g.page (omega (arith, most.page.1)),
+        (
+          decimal_clear g.unit (omega (arith, most.unit.1)),
+          (decimal_clear g.slot_pages (omega (arith, most.pages.1)), (field_clear flash.image is.1, second_clear g.images flash.second is.2)),
+        ),
+      ),
+    )
 
 with_flash : (flash : FlashLine) (es : List Event) → IsFlash flash → AreEvents 0 es → length es ≤ 100000
     → schedule (line_of (flash_words flash) ++ event_lines es) ≡ Ok record { flash = Some flash; events = es }
 with_flash flash es is are room =
     ap (schedule_from 1) (line_again (flash_words flash) (event_lines es) (flash_clear flash is))
     ∙ ap (λ (o : Option FlashLine). begun 1 o (joined (flash_words flash)) (lines_of (event_lines es)))
-      (ap flash_in (fields_again (flash_words flash) (omega arith) (flash_clear flash is)) ∙ flash_again flash is)
+    (ap flash_in (fields_again (flash_words flash) (omega arith) (flash_clear flash is)) ∙ flash_again flash is)
     ∙ ap (under (Some flash)) (events_again 2 0 0 es (omega arith) are (omega (arith, room)))
 
 without_flash : (es : List Event) → AreEvents 0 es → length es ≤ 100000 → schedule (event_lines es) ≡ Ok record { flash = None; events = es }
@@ -254,9 +262,9 @@ without_flash (event ∷ es) are room =
     let split = line_again (event_words event) (event_lines es) (event_clear 0 event (omega arith) are.0) in
     ap (schedule_from 1) split
     ∙ rw (stands event)
-      (ap (λ (o : Option FlashLine). begun 1 o line (lines_of (event_lines es)))
-        (ap flash_in (fields_again (event_words event) (has_words event) (event_clear 0 event (omega arith) are.0)) ∙ no_flash event)
-      ∙ ap (under None) (sym (ap (events_from 1 0 0) split) ∙ events_again 1 0 0 (event ∷ es) (omega arith) are (omega (arith, room))))
+    (ap (λ (o : Option FlashLine). begun 1 o line (lines_of (event_lines es)))
+    (ap flash_in (fields_again (event_words event) (has_words event) (event_clear 0 event (omega arith) are.0)) ∙ no_flash event)
+    ∙ ap (under None) (sym (ap (events_from 1 0 0) split) ∙ events_again 1 0 0 (event ∷ es) (omega arith) are (omega (arith, room))))
 
 again : (flash : Option FlashLine) (es : List Event) → ForSome flash IsFlash → AreEvents 0 es → length es ≤ 100000
     → schedule (flash_text flash ++ event_lines es) ≡ Ok record { flash = flash; events = es }

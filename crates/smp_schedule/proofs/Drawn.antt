@@ -1,19 +1,18 @@
 -- A generated schedule is lawful.
-use Rattle.std.proofs.Common.{◌≡◌, ℕ, zero, suc, ◌+◌, ◌*◌, ◌/◌, ◌%◌, ◌<◌, ◌≤◌, ◌^◌, Bool, true, false, List, [], ◌∷◌, length, codes, Option, Some, None, refl, sym, ap, ◌∙◌, subst, arith, add-one}
+use Rattle.std.proofs.Common.{◌≡◌, ℕ, zero, suc, ◌%◌, ◌<◌, ◌≤◌, Bool, true, false, List, [], ◌∷◌, length, codes, Some, None, refl, sym, ap, subst, arith}
 use Rattle.std.specs.Prelude.{if◌then◌else◌, ◌==◌, nat_lt, slice_index}
 use Rattle.std.specs.Option.{ForSome}
 use Rattle.std.specs.Str.{is_utf8}
 use Rattle.std.proofs.lemmas.Str.{IsUtf8-from_ascii}
 use Rattle.std.specs.List.{list_all}
 use Rattle.std.proofs.lemmas.Bool.Decides.{nat_tests}
-use Rattle.smp_flash.specs.declared.arm.Left.TheVariants as lefts
 use Rattle.smp_schedule.specs.declared.event.Which.TheVariants as which
 use Rattle.smp_schedule.specs.declared.event.Event.{Event}
 use Rattle.smp_schedule.specs.declared.event.Event.TheVariants as events
 use Rattle.smp_schedule.specs.declared.flash_line.FlashLine.{FlashLine}
 use Rattle.smp_schedule.specs.Schedules.{clients_after}
-use Rattle.smp_schedule.specs.Lawful.{IsBetween, IsField, IsEvent, AreEvents, IsFlash, IsLawful}
-use Rattle.smp_schedule.specs.Generated.{next_number, drawn, number_after, Generator, generator, small_draw, generated_arm, event_of, kind_of, stepped, generated_event, generated_after, generated_from, generated_client, generated}
+use Rattle.smp_schedule.specs.Lawful.{IsBetween, IsEvent, AreEvents, IsFlash, IsLawful}
+use Rattle.smp_schedule.specs.Generated.{next_number, drawn, number_after, Generator, generator, small_draw, generated_arm, event_of, kind_of, stepped, generated_after, generated_from, generated}
 use Rattle.smp_schedule.proofs.Splitting.{left_true, right_true}
 use Rattle.smp_schedule.proofs.Texts.{is_text}
 use Rattle.smp_schedule.proofs.Drawing.{events_none, events_more}
@@ -45,7 +44,7 @@ event_own r g =
     (either (r == 1) (events.Up (which.Number (small_draw 64 (next_number g.number)))) _ (record { is = number_own (next_number g.number); same = refl })
     (either (r == 2) (events.Down (which.Number (small_draw 64 (next_number g.number)))) _ (record { is = number_own (next_number g.number); same = refl })
     (either (r == 3) (events.Armed (generated_arm (small_draw 8 (next_number g.number)) (drawn (next_number (next_number g.number))))) _
-      (record { is = (let s = small 8 (next_number g.number) (omega arith) in (s.0, omega (arith, s.1)), drawn_small (next_number g.number)); same = refl })
+    (record { is = (let s = small 8 (next_number g.number) (omega arith) in (s.0, omega (arith, s.1)), drawn_small (next_number g.number)); same = refl })
     (either (r == 4) events.Boot _ (record { is = tt; same = refl })
     (either g.replies (events.Down which.New) (events.Up which.New) (record { is = tt; same = refl }) (record { is = tt; same = refl }))))))
 

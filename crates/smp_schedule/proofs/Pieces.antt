@@ -1,10 +1,10 @@
 -- What is put, one piece after another.
 use Rattle.std.proofs.Common.{◌≡◌, ℕ, ◌≤◌, ◌<◌, ◌+◌, ◌/◌, ◌%◌, slice_index, Bor, length, get_or, map, take, drop, codes, List, [], ◌∷◌, ◌++◌, Option, Some, None, Result, Ok, Err, refl, sym, ap, ◌∙◌, append_assoc, append-nil, arith}
-use Rattle.std.specs.Prelude.{OnOk, OnErr, IsErr}
+use Rattle.std.specs.Prelude.{IsErr}
 use Rattle.std.specs.Fmt.{decimal}
 use Rattle.std.specs.Io.KnownBytes.{append_known}
 use Rattle.hex.specs.Hex.{encode_with, encode_lower, lower_digits}
-use Rattle.smp_edge.specs.Faults.{HasCause, Rose}
+use Rattle.smp_edge.specs.Faults.{HasCause}
 use Rattle.smp_edge.specs.Sink.{AppendsFront}
 use Rattle.smp_edge.specs.declared.sink.Failed.{Failed}
 use Rattle.std.proofs.lemmas.List.{take-append-drop, drop_more, drop_all}

@@ -1,16 +1,9 @@
 -- The lines that are read are lawful, and so is the schedule.
-use Rattle.std.proofs.Common.{◌≡◌, ℕ, zero, suc, ◌+◌, ◌<◌, ◌≤◌, ◌^◌, Bool, true, false, List, [], ◌∷◌, ◌++◌, length, codes, Option, Some, None, Result, Ok, Err, refl, sym, ap, ◌∙◌, subst, arith, inl, inr}
-use Rattle.std.specs.Prelude.{◌&&◌, ◌==◌, nat_le, nat_lt, if◌then◌else◌}
-use Rattle.std.specs.List.{list_all}
+use Rattle.std.proofs.Common.{◌≡◌, ℕ, suc, ◌+◌, ◌<◌, ◌≤◌, Bool, true, false, List, [], ◌∷◌, length, codes, Option, Some, None, Result, Ok, Err, refl, sym, ap, subst, arith}
+use Rattle.std.specs.Prelude.{nat_le, nat_lt, if◌then◌else◌}
 use Rattle.std.specs.Option.{ForSome, option_map, option_and_then}
-use Rattle.std.specs.Result.{result_ok}
 use Rattle.std.specs.Str.{bytes_eq}
-use Rattle.std.specs.Str.Parse.{digits_value}
-use Rattle.std.proofs.lemmas.Bool.{cases_Bool}
 use Rattle.std.proofs.lemmas.Bool.Decides.{nat_tests}
-use Rattle.hex.specs.Hex.{IsBytes, decode_of}
-use Rattle.hex.specs.declared.error.FromHexError.{FromHexError}
-use Rattle.hex.proofs.HexLemmas.{decode_of-ok}
 use Rattle.smp_flash.specs.declared.arm.Arm.{Arm}
 use Rattle.smp_flash.specs.declared.arm.ArmKind.{ArmKind}
 use Rattle.smp_flash.specs.declared.arm.ArmKind.TheVariants as kinds
@@ -22,21 +15,18 @@ use Rattle.smp_flash.specs.Geometry.{is_lawful}
 use Rattle.smp_model.specs.declared.setting.Setting.{Setting}
 use Rattle.smp_model.specs.declared.upload.Ending.{Ending}
 use Rattle.smp_schedule.specs.declared.event.Which.{Which}
-use Rattle.smp_schedule.specs.declared.event.Which.TheVariants as which
 use Rattle.smp_schedule.specs.declared.event.Event.{Event}
 use Rattle.smp_schedule.specs.declared.event.Event.TheVariants as events
 use Rattle.smp_schedule.specs.declared.flash_line.FlashLine.{FlashLine}
 use Rattle.smp_schedule.specs.declared.job.JobWords.{JobWords}
 use Rattle.smp_schedule.specs.declared.job.JobWords.TheVariants as jobs
-use Rattle.smp_schedule.specs.Fields.{lines_of, is_skipped, fields_of, onto_first, only}
-use Rattle.smp_schedule.specs.Words.{is_word, name_in, word_in, is_number, number_in, sized, hex_in, kind_in, region_in, left_in, seed_in, ending_in}
+use Rattle.smp_schedule.specs.Fields.{lines_of, is_skipped, fields_of, only}
+use Rattle.smp_schedule.specs.Words.{name_in, word_in, number_in, hex_in, kind_in, region_in, left_in, seed_in, ending_in}
 use Rattle.smp_schedule.specs.Jobs.{chunk_in, image_in, upload_with, upload_in, list_in, value_in, setting, pair_in, with_pair, pairs_in, set_with, set_in, put_with, put_in, get_in, echo_in, job_in}
 use Rattle.smp_schedule.specs.Events.{which_in, which_of, client_with, client_of, left_of, arm_left, arm_with, arm_of, boot_of, event_in, geometry, flash_line, flash_one, flash_two, flash_with, flash_of, flash_in}
 use Rattle.smp_schedule.specs.Schedules.{Schedule, schedule, schedule_from, begun, under, events_from, onto_events, event_at, clients_with, clients_after}
-use Rattle.smp_schedule.specs.Lawful.{IsBetween, is_no_space, IsField, IsName, IsSized, IsWhich, IsPair, ArePairs, IsJob, IsLeft, IsArm, IsEvent, AreEvents, IsSecond, IsFlash, IsLawful}
-use Rattle.smp_schedule.proofs.Numbers.{within}
-use Rattle.smp_schedule.proofs.Splitting.{left_true, right_true, both_true}
-use Rattle.smp_schedule.proofs.ReadWords.{tested, passed, one_way, mapped, chained, HasNoSpace, HaveNoSpace, number_read, word_read, name_read, hex_read, value_read, which_read, fields_free, only_one}
+use Rattle.smp_schedule.specs.Lawful.{IsBetween, IsField, IsName, IsWhich, ArePairs, IsJob, IsLeft, IsArm, IsEvent, AreEvents, IsSecond, IsFlash, IsLawful}
+use Rattle.smp_schedule.proofs.ReadWords.{tested, passed, one_way, mapped, chained, HaveNoSpace, number_read, word_read, name_read, hex_read, value_read, which_read, fields_free, only_one}
 
 -- Jobs.
 
@@ -268,11 +258,11 @@ events_read number clients count (line ∷ lines) es h =
     branch (AreRead clients count es) (is_skipped line) (events_from (suc number) clients count lines) _ es
     (events_read (suc number) clients count lines es)
     (λ k.
-      let s = onto_read number (event_at clients count line) (λ o. events_from (suc number) (clients_with o clients) (suc count) lines) es k in
-      let first = line_read clients count line s.0 s.2 in
-      let later = events_read (suc number) (clients_after s.0 clients) (suc count) lines s.1 s.3 in
-      subst (AreRead clients count) s.4
-      (record { are = (first.1, later.are); room = λ r. let l = later.room (omega (arith, first.0)) in omega (arith, l) }))
+    let s = onto_read number (event_at clients count line) (λ o. events_from (suc number) (clients_with o clients) (suc count) lines) es k in
+    let first = line_read clients count line s.0 s.2 in
+    let later = events_read (suc number) (clients_after s.0 clients) (suc count) lines s.1 s.3 in
+    subst (AreRead clients count) s.4
+    (record { are = (first.1, later.are); room = λ r. let l = later.room (omega (arith, first.0)) in omega (arith, l) }))
     h
 
 -- The flash line.

@@ -1,20 +1,17 @@
 -- Words that are written are read again.
-use Rattle.std.proofs.Common.{◌≡◌, ℕ, zero, suc, ◌+◌, ◌<◌, ◌≤◌, ◌*◌, ◌%◌, ◌^◌, Bool, true, false, List, [], ◌∷◌, ◌++◌, length, codes, Option, Some, None, Result, Ok, Err, refl, sym, ap, ◌∙◌, subst, arith, inl, inr}
-use Rattle.std.specs.Prelude.{nat_le, ◌&&◌, not, ◌==◌, if◌then◌else◌, slice_index}
-use Rattle.std.specs.List.{list_all, AllPass}
-use Rattle.std.specs.Option.{option_and_then}
-use Rattle.std.specs.Result.{result_ok}
+use Rattle.std.proofs.Common.{◌≡◌, ℕ, suc, ◌<◌, ◌≤◌, ◌*◌, ◌^◌, true, false, List, [], ◌∷◌, length, codes, Some, refl, sym, ap, subst, arith, inl, inr}
+use Rattle.std.specs.Prelude.{nat_le, ◌&&◌}
+use Rattle.std.specs.List.{list_all}
 use Rattle.std.specs.Str.{is_utf8, bytes_eq}
-use Rattle.std.specs.Str.Parse.{IsNumeral, AllDigits}
+use Rattle.std.specs.Str.Parse.{AllDigits}
 use Rattle.std.specs.Fmt.{decimal}
 use Rattle.std.proofs.lemmas.Bool.{cases_Bool}
 use Rattle.std.proofs.lemmas.Bool.Decides.{nat_tests}
 use Rattle.std.proofs.lemmas.Fmt.{decimal_is_IsNumeral}
-use Rattle.std.proofs.lemmas.Str.{digit_value_digit}
 use Rattle.std.proofs.lemmas.Str.Parse.{digit_from_value}
 use Rattle.std.proofs.lemmas.Slice.Eq.{bytes_eq-Decides}
 use Rattle.std.proofs.lemmas.List.Sums.{list_all-from_AllPass}
-use Rattle.hex.specs.Hex.{IsBytes, decode_of, encode_lower, is_hex_digit, lower_digits}
+use Rattle.hex.specs.Hex.{IsBytes, encode_lower, is_hex_digit, lower_digits}
 use Rattle.hex.proofs.HexLemmas.{decode_of-encode_lower, decode_of-ok, length-encode_with}
 use Rattle.smp_flash.specs.declared.arm.ArmKind.{ArmKind}
 use Rattle.smp_flash.specs.declared.arm.ArmKind.TheVariants as kinds
@@ -26,7 +23,7 @@ use Rattle.smp_model.specs.declared.upload.Ending.{Ending}
 use Rattle.smp_model.specs.declared.upload.Ending.TheVariants as endings
 use Rattle.smp_schedule.specs.declared.event.Which.{Which}
 use Rattle.smp_schedule.specs.declared.event.Which.TheVariants as which
-use Rattle.smp_schedule.specs.Words.{is_plain, is_word, name_in, word_in, is_number, number_in, sized, hex_in, region_word, region_in, kind_word, kind_in, left_in, ending_word, ending_in}
+use Rattle.smp_schedule.specs.Words.{is_plain, is_word, name_in, word_in, number_in, sized, hex_in, region_word, region_in, kind_word, kind_in, left_in, ending_word, ending_in}
 use Rattle.smp_schedule.specs.Jobs.{value_in}
 use Rattle.smp_schedule.specs.Events.{which_in}
 use Rattle.smp_schedule.specs.Lawful.{IsBetween, IsField, IsName, IsSized, IsWhich, is_no_space}
@@ -43,7 +40,7 @@ pub number_again : (low high n : ℕ) → high < 2 ^ 32 → IsBetween low high n
 number_again low high n small is =
     sym (found low high n (decimal n) (omega (arith, is.1))
     (both_true (bytes_eq (decimal n) (decimal n)) (nat_le low n && nat_le n high) ((bytes_eq-Decides (decimal n) (decimal n)).1 refl)
-      (both_true (nat_le low n) (nat_le n high) (at_most low n is.0) (at_most n high is.1))))
+    (both_true (nat_le low n) (nat_le n high) (at_most low n is.0) (at_most n high is.1))))
 
 digits_clear : (digits : List ℕ) → AllDigits 10 digits → IsClear digits
 digits_clear [] h = refl
@@ -143,7 +140,7 @@ pub field_clear : (bytes : List ℕ) → IsField bytes → IsClear bytes
 field_clear bytes is =
     all_clear bytes
     (right_true (is_utf8 bytes) (list_all is_plain bytes)
-      (right_true (nat_le 1 (length bytes)) (is_utf8 bytes && list_all is_plain bytes) is.0)) is.1
+    (right_true (nat_le 1 (length bytes)) (is_utf8 bytes && list_all is_plain bytes) is.0)) is.1
 
 -- Words of tables.
 

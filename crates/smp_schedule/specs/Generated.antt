@@ -1,5 +1,5 @@
 -- The schedule that is generated of a seed: an upload, and events by draws. Draws are those of a linear congruential generator.
-use Rattle.std.specs.Prelude.{ℕ, zero, suc, ◌+◌, ◌*◌, ◌/◌, ◌%◌, ◌^◌, ◌==◌, if◌then◌else◌, Bool, true, false, not, List, [], ◌∷◌, codes, None}
+use Rattle.std.specs.Prelude.{ℕ, zero, suc, ◌+◌, ◌*◌, ◌/◌, ◌%◌, ◌^◌, ◌==◌, if◌then◌else◌, Bool, false, not, List, [], ◌∷◌, codes, None}
 use Rattle.smp_flash.specs.declared.arm.Arm.{Arm}
 use Rattle.smp_flash.specs.declared.arm.ArmKind.TheVariants as kinds
 use Rattle.smp_flash.specs.declared.arm.Left.TheVariants as lefts

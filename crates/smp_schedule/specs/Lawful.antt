@@ -1,5 +1,5 @@
 -- The schedules that the grammar has: each number is within its bounds, and each name is a word with no space.
-use Rattle.std.specs.Prelude.{Bool, true, ◌≡◌, ◌==◌, ◌&&◌, not, ℕ, ◌+◌, ◌≤◌, List, [], ◌∷◌, length, Option, Some, None}
+use Rattle.std.specs.Prelude.{Bool, true, ◌≡◌, ◌==◌, not, ℕ, ◌+◌, ◌≤◌, List, [], ◌∷◌, length, Option, Some, None}
 use Rattle.std.specs.List.{list_all}
 use Rattle.std.specs.Option.{ForSome}
 use Rattle.hex.specs.Hex.{IsBytes}

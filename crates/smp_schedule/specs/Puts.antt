@@ -1,5 +1,5 @@
 -- What putting some bytes into a sink answers and leaves.
-use Rattle.std.specs.Prelude.{◌≡◌, ℕ, List, ◌++◌, Option, Result, Ok, OnOk}
+use Rattle.std.specs.Prelude.{◌≡◌, ℕ, List, ◌++◌, Option, Result, OnOk}
 use Rattle.std.specs.Io.KnownBytes.{append_known}
 use Rattle.smp_edge.specs.Faults.{HasCause}
 use Rattle.smp_edge.specs.Sink.{AppendsFront}

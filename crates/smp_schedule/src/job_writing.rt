@@ -41,12 +41,7 @@ fn put_start<O: Sink>(out: &mut O, number: u8, job: &[u8]) -> Result<(), Failed>
 }
 
 /// Puts the line of a client with this number, whose job has these words.
-fn put_job<O: Sink>(
-    out: &mut O,
-    number: u8,
-    job: &[u8],
-    words: &[&[u8]],
-) -> Result<(), Failed>
+fn put_job<O: Sink>(out: &mut O, number: u8, job: &[u8], words: &[&[u8]]) -> Result<(), Failed>
     ensures { Puts (O.written out.old) (O.written out.new) (O.faults out.old) (O.faults out.new) result
         (line_of (codes "client" ∷ decimal number ∷ job.now ∷ map (λ w. w.now) words.now)) }
 {

@@ -1,6 +1,6 @@
 -- One byte more, and no more.
-use Rattle.std.proofs.Common.{◌≡◌, ◌+◌, ◌-◌, ◌++◌, ℕ, List, ap, refl, ◌∙◌, arith}
-use Rattle.smp_schedule.specs.Generated.{Generator, generator, draws, number_after, next_number}
+use Rattle.std.proofs.Common.{◌≡◌, ap, refl, ◌∙◌, arith}
+use Rattle.smp_schedule.specs.Generated.{Generator, next_number}
 use Rattle.smp_schedule.proofs.Drawing.{one_byte, one_number, no_bytes, no_number}
 use Rattle.smp_schedule.proofs.generating.add_bytes.Goals as goal
 

@@ -1,4 +1,4 @@
-use Rattle.std.proofs.Common.{refl, sym}
+use Rattle.std.proofs.Common.{refl}
 use Rattle.smp_schedule.proofs.Pieces.{first_put, first_fails, more_put, put_fails, last_put}
 use Rattle.smp_schedule.proofs.job_writing.put_start.Goals as goal
 

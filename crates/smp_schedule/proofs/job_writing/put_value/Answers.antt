@@ -1,4 +1,4 @@
-use Rattle.std.proofs.Common.{refl, arith}
+use Rattle.std.proofs.Common.{arith}
 use Rattle.smp_schedule.proofs.Pieces.{value_is_hex, then_put}
 use Rattle.smp_schedule.proofs.job_writing.put_value.Goals as goal
 

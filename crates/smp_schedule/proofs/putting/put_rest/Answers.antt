@@ -1,4 +1,3 @@
-use Rattle.std.proofs.Common.{◌∷◌, get_or, sym}
 use Rattle.smp_schedule.proofs.Pieces.{more_put, put_fails, last_put, fields_left, no_fields_left}
 use Rattle.smp_schedule.proofs.putting.put_rest.Goals as goal
 

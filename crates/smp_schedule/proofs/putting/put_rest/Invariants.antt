@@ -1,4 +1,4 @@
-use Rattle.std.proofs.Common.{map, take, drop}
+use Rattle.std.proofs.Common.{map, drop}
 use Rattle.smp_schedule.specs.Puts.{PutSome}
 use Rattle.smp_schedule.specs.Written.{ended}
 use Rattle.smp_schedule.proofs.putting.put_rest.Given as goal

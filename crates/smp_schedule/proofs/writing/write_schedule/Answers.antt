@@ -1,4 +1,4 @@
-use Rattle.std.proofs.Common.{◌++◌, sym, ap, subst, List, ℕ}
+use Rattle.std.proofs.Common.{◌++◌, subst, List}
 use Rattle.smp_edge.specs.Sink.{AppendsFront}
 use Rattle.smp_schedule.specs.declared.event.Event.{Event}
 use Rattle.smp_schedule.specs.Written.{flash_text, event_lines}
