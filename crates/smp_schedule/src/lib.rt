@@ -14,7 +14,9 @@
 //!
 //! Lines end with a newline, which the last may lack; fields are parted by one space. A number has no sign and no leading
 //! zeros, and hex may have either case. [`read_schedule`] reads a text by its grammar (`specs/Schedules.antt`) and names the
-//! first line outside it; [`read_job`] reads the words of a job, which a command line may have too.
+//! first line outside it; [`read_job`] reads the words of a job, which a command line may have too. [`write_schedule`] puts the
+//! one text of a schedule, with hex in lower case and no lines that are skipped (`specs/Written.antt`); whatever is read, and
+//! whatever is lawful (`specs/Lawful.antt`), is read again from its text ([`written_is_read`], [`read_is_lawful`]).
 #![tactic(auto)]
 
 mod event;
