@@ -106,6 +106,15 @@ fn fails_to_upload_an_image(rt: HostRuntime) -> Result<(), Fail> {
 }
 
 #[test]
+fn is_refused_where_its_image_is_not_there(rt: HostRuntime) -> Result<(), Fail> {
+    let alloc = rt.alloc();
+    let mut job = upload(alloc, 1, 32, Ending::Only)?;
+    assert_eq!(rt; converse(alloc, &mut job, &tables::NO_SUCH_IMAGE)?, 3);
+    assert!(rt; job.result().is_empty());
+    Ok(())
+}
+
+#[test]
 fn lists_images(rt: HostRuntime) -> Result<(), Fail> {
     let alloc = rt.alloc();
     let images = format!(in alloc;

@@ -192,6 +192,28 @@ pub const UPLOAD_REFUSED: [Line; 2] = [
     },
 ];
 
+/// An upload for image 1, where there is one image.
+pub const NO_SUCH_IMAGE: [Line; 3] = [
+    Line {
+        heard: None,
+        moved: JobMove::Send,
+        sent: "0a00006000010001a565696d61676501636c656e1850636f666600637368615820023dbd00747be690465d697bbaa8584b5c160e74b3ea53eb195e3bed403c199c646461746158203db8f396",
+    },
+    Line {
+        heard: Some("0b00001100010001a163657272a26567726f7570016272630e"),
+        moved: JobMove::Failed(JobEnd::Refused {
+            group: Some(1),
+            number: 14,
+        }),
+        sent: "",
+    },
+    Line {
+        heard: Some("0b00000700010001a1636f66661820"),
+        moved: JobMove::Over,
+        sent: "",
+    },
+];
+
 pub const UPLOAD_REFUSED_BY_PROTOCOL: [Line; 1] = [Line {
     heard: Some("0b00000500010001a162726308"),
     moved: JobMove::Failed(JobEnd::Refused {
