@@ -1,6 +1,6 @@
 -- A lawful schedule is read again from its text.
 use Rattle.std.proofs.Common.{◌≡◌, ℕ, zero, suc, ◌+◌, ◌<◌, ◌≤◌, true, false, List, [], ◌∷◌, ◌++◌, length, Option, Some, None, Ok, refl, sym, ap, ◌∙◌, subst, arith}
-use Rattle.std.specs.Prelude.{◌&&◌, nat_le, nat_lt}
+use Rattle.std.specs.Prelude.{◌&&◌, nat_lt}
 use Rattle.std.specs.Option.{ForSome, option_to_list}
 use Rattle.std.specs.Fmt.{decimal}
 use Rattle.std.proofs.lemmas.Bool.Decides.{nat_tests}
@@ -24,10 +24,7 @@ use Rattle.smp_schedule.specs.Schedules.{Schedule, schedule, schedule_from, begu
 use Rattle.smp_schedule.specs.Lawful.{IsBetween, IsField, ArePairs, IsJob, IsLeft, IsArm, IsEvent, AreEvents, IsSecond, IsFlash, IsLawful}
 use Rattle.smp_schedule.specs.Written.{line_of, left_words, arm_words, image_words, pair_words, job_words, event_words, flash_words, event_lines, flash_text, schedule_text}
 use Rattle.smp_schedule.proofs.Splitting.{AreClear, joined, line_again, fields_again, left_true, right_true}
-use Rattle.smp_schedule.proofs.Spelling.{number_again, decimal_clear, which_again, which_clear, hex_again, hex_clear, value_again, value_clear, word_again, name_again, field_clear, region_again, region_clear, kind_again, kind_clear, ending_again, ending_clear, left_again, left_clear}
-
-at_most : (a b : ℕ) → a ≤ b → nat_le a b ≡ true
-at_most a b h = grind (arith, nat_tests)
+use Rattle.smp_schedule.proofs.Spelling.{at_most, number_again, decimal_clear, which_again, which_clear, hex_again, hex_clear, value_again, value_clear, word_again, name_again, field_clear, region_again, region_clear, kind_again, kind_clear, ending_again, ending_clear, left_again, left_clear}
 
 below : (a b : ℕ) → a < b → nat_lt a b ≡ true
 below a b h = grind (arith, nat_tests)

@@ -1,7 +1,6 @@
 -- A generated schedule is lawful.
-use Rattle.std.proofs.Common.{◌≡◌, ℕ, zero, suc, ◌%◌, ◌<◌, ◌≤◌, Bool, true, false, List, [], ◌∷◌, length, codes, Some, None, refl, sym, ap, subst, arith}
+use Rattle.std.proofs.Common.{◌≡◌, ℕ, zero, suc, ◌%◌, ◌<◌, ◌≤◌, Bool, true, false, List, [], ◌∷◌, length, codes, refl, sym, ap, subst, arith}
 use Rattle.std.specs.Prelude.{if◌then◌else◌, ◌==◌, nat_lt, slice_index}
-use Rattle.std.specs.Option.{ForSome}
 use Rattle.std.specs.Str.{is_utf8}
 use Rattle.std.proofs.lemmas.Str.{IsUtf8-from_ascii}
 use Rattle.std.specs.List.{list_all}
@@ -9,12 +8,12 @@ use Rattle.std.proofs.lemmas.Bool.Decides.{nat_tests}
 use Rattle.smp_schedule.specs.declared.event.Which.TheVariants as which
 use Rattle.smp_schedule.specs.declared.event.Event.{Event}
 use Rattle.smp_schedule.specs.declared.event.Event.TheVariants as events
-use Rattle.smp_schedule.specs.declared.flash_line.FlashLine.{FlashLine}
 use Rattle.smp_schedule.specs.Schedules.{clients_after}
-use Rattle.smp_schedule.specs.Lawful.{IsBetween, IsEvent, AreEvents, IsFlash, IsLawful}
+use Rattle.smp_schedule.specs.Lawful.{IsBetween, IsEvent, AreEvents, IsLawful}
 use Rattle.smp_schedule.specs.Generated.{next_number, drawn, number_after, Generator, generator, small_draw, generated_arm, event_of, kind_of, stepped, generated_after, generated_from, generated}
 use Rattle.smp_schedule.proofs.Splitting.{left_true, right_true}
 use Rattle.smp_schedule.proofs.Texts.{is_text}
+use Rattle.smp_schedule.proofs.ReadLines.{no_line}
 use Rattle.smp_schedule.proofs.Drawing.{events_none, events_more}
 
 abbrev is_low : ℕ → Bool
@@ -57,12 +56,6 @@ events_own (suc n) g =
 events_count : (n : ℕ) (g : Generator) → length (generated_from n g) ≡ n
 events_count zero g = rw (events_none g) refl
 events_count (suc n) g = rw (events_more n g) (ap suc (events_count n (generated_after g)))
-
-no_line : ForSome None IsFlash
-no_line flash e = absurd (nothing flash e)
-  where
-    nothing : (flash : FlashLine) → None ≡ Some flash → ⊥
-    nothing flash e = cc
 
 ascii_bytes : (xs : List ℕ) → list_all is_low xs ≡ true → (i : ℕ) → slice_index xs i < 128
 ascii_bytes [] h i = omega arith

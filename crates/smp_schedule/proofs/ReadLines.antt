@@ -320,7 +320,7 @@ made flash number lines s is h =
     let read = events_read number 0 0 lines u.0 u.1 in
     subst IsLawful u.2 (record { flash = is; events = read.are; count = let r = read.room (omega arith) in omega (arith, r) })
 
-no_line : ForSome None IsFlash
+pub no_line : ForSome None IsFlash
 no_line flash e = absurd (nothing flash e)
   where
     nothing : (flash : FlashLine) → None ≡ Some flash → ⊥

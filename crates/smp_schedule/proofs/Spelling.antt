@@ -31,7 +31,7 @@ use Rattle.smp_schedule.specs.Written.{which_word, left_word, value_word}
 use Rattle.smp_schedule.proofs.Numbers.{found}
 use Rattle.smp_schedule.proofs.Splitting.{is_clear, IsClear, left_true, right_true, both_true}
 
-at_most : (a b : ℕ) → a ≤ b → nat_le a b ≡ true
+pub at_most : (a b : ℕ) → a ≤ b → nat_le a b ≡ true
 at_most a b h = grind (arith, nat_tests)
 
 -- Numbers.

@@ -1,6 +1,7 @@
 // Lines inside and outside the grammar, worked out by hand from its tables.
 
-use crate::{Event, ScheduleFault, Which, generate, generated_payload, read_schedule};
+use crate::{Event, ScheduleFault, Which, generate, generated_payload, read_job, read_schedule};
+use smp_edge::Octets;
 use std::alloc::{AllocError, Global};
 use std::test::Fail;
 
@@ -99,6 +100,43 @@ fn refuses_other_words(rt: HostRuntime) {
         let want = Err(ScheduleFault::BadLine(1));
         assert_eq!(rt; count_of(rt.alloc(), text), want, "{text}");
     }
+}
+
+/// Whether words spell a job, which are parted by `|` here.
+fn is_job(alloc: Global, text: &str) -> Result<bool, AllocError> {
+    let mut words = Vec::new(alloc);
+    for word in text.split('|') {
+        words.push(Octets::from_slice(alloc, word.as_bytes())?)?;
+    }
+    Ok(read_job(alloc, words.as_slice())?.is_some())
+}
+
+#[test]
+fn reads_the_words_of_a_job(rt: HostRuntime) -> Result<(), Fail> {
+    for (text, is) in [
+        ("upload|my app.img|32|only", true),
+        ("upload|app.img|1900|confirm|1", true),
+        ("upload|app.img|480", false),
+        ("upload|app.img|480|test|0", false),
+        ("list", true),
+        ("list|all", false),
+        ("set|a|01|b c|-", true),
+        ("set|a", false),
+        ("set", false),
+        ("put|data.bin|my file", true),
+        ("put|data.bin", false),
+        ("get|my file", true),
+        ("echo|hi there", true),
+        ("echo|hi|there", false),
+        ("echo|", false),
+        ("echo|\t", false),
+        ("Echo|hi", false),
+        ("", false),
+    ] {
+        assert_eq!(rt; is_job(rt.alloc(), text)?, is, "{text}");
+    }
+    assert!(rt; read_job(rt.alloc(), &[])?.is_none());
+    Ok(())
 }
 
 /// The first lines outside the grammar of schedules that were made to be refused.
