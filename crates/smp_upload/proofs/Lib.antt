@@ -1,0 +1,12 @@
+pub mod Begun
+pub mod Composing
+pub mod Costs
+pub mod Ends
+pub mod Frames
+pub mod Parted
+pub mod Parts
+pub mod Putting
+pub mod Resolved
+pub mod Sides
+pub mod Stored
+pub mod Tellings

@@ -1,0 +1,6 @@
+use Rattle.smp_upload.proofs.Sides.{one_side}
+use Rattle.smp_upload.proofs.Composing.{Done-Done, Done-Moved, Moved-first, Done-is, Moved-wider, Done-wider}
+use Rattle.smp_upload.proofs.laws.sides_are_told_apart.Goals as goal
+
+pub returns : goal.returns
+returns c = one_side c.records_are_told_apart.ensures

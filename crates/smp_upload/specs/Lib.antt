@@ -1,0 +1,10 @@
+pub mod Bytes
+pub mod Counting
+pub mod Faults
+pub mod Moves
+pub mod Needs
+pub mod Reading
+pub mod States
+pub mod Free
+pub mod Storing
+pub mod Rescuing

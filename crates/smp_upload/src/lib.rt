@@ -1,0 +1,16 @@
+//! The typed states of an upload into the secondary slot of an image.
+#![tactic(auto)]
+
+mod below;
+mod choosing;
+mod chunking;
+mod faults;
+mod laws;
+mod reading;
+mod records;
+mod settling;
+mod states;
+mod storing;
+
+pub use laws::{sides_are_told_apart, sides_outlast_other_changes};
+pub use states::{Chunked, Idle, Lost, Mounted, Pending, Receiving, UploadFault, Unmounted, Whole};

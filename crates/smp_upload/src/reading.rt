@@ -1,0 +1,111 @@
+// The front of a secondary slot, as bytes that an image is read from.
+ghost use Rattle.std.specs.Prelude.{◌≡◌, ◌+◌, ◌≤◌, ◌∷◌, [], length, IfOk, IfErr, IfSome};
+ghost use Rattle.std.proofs.Props.{props};
+ghost use Rattle.std.specs.Option.{option_map};
+ghost use Rattle.sha2.specs.Sha256.{sha256};
+ghost use Rattle.smp_flash.specs.Area.{AreBytes, area};
+ghost use Rattle.smp_flash.specs.Calls.{Calls, ReadsAtMost};
+ghost use Rattle.smp_flash.specs.Geometry.{size_of, slot_size};
+ghost use Rattle.smp_flash.specs.Layout.{geometry_of, slot_of, area_spot};
+ghost use Rattle.smp_model.specs.Image.{good_image};
+ghost use Rattle.smp_tlv.specs.Carried.{Carries};
+ghost use Rattle.smp_upload.specs.Faults.{upload_end};
+ghost use Rattle.smp_upload.specs.Reading.{part_state};
+
+use crate::faults::{from_read, lost};
+use crate::states::{Lost, UploadFault};
+use smp_flash::{Flash, FlashFault, Layout, regions_lie_apart, told_bytes_have_the_size};
+use smp_tlv::{Bytes, Carried, Finished};
+
+/// So many bytes of a flash from a place on.
+#[derive(Drop)]
+pub struct Front<'a, F: Flash> {
+    flash: &'a mut F,
+    at: u32,
+    size: u32,
+    ghost inside: { at + size ≤ size_of (F.state flash.now).geometry },
+    ghost sized: { IfSome (option_map (area at size) (F.state flash.now).bytes) (λ held. length held ≡ size) } by { Prim.hlevel props },
+    ghost are_bytes: { IfSome (option_map (area at size) (F.state flash.now).bytes) AreBytes } by { Prim.hlevel props },
+}
+
+impl<F: Flash> Bytes for Front<'_, F> {
+    ghost state = { λ p. part_state p.at p.size p.flash.ghost_name (F.state p.flash.now) };
+
+    fn length(&self) -> u32 {
+        self.size
+    }
+
+    fn read(&mut self, at: u32, into: &mut [u8]) -> Result<(), FlashFault> {
+        if into.is_empty() {
+            return Ok(());
+        }
+        self.flash.read(self.at + at, into)
+    }
+
+    ghost sized = { λ p. p.sized };
+
+    ghost bytes = { λ p. p.are_bytes };
+}
+
+/// So many bytes of a flash from a place on.
+fn front_of<F: Flash>(flash: &mut F, at: u32, size: u32) -> Front<'_, F>
+    requires { at + size ≤ size_of (F.state flash.old).geometry }
+    ensures same_reference { result.flash.ghost_name ≡ flash.entry.ghost_name }
+    ensures now { result.flash.now ≡ flash.old }
+    ensures place { (result.at ≡ at) × (result.size ≡ size) }
+{
+    told_bytes_have_the_size(flash);
+    Front { flash, at, size }
+}
+
+/// What is known of bytes that were all added to the sums.
+fn finish_in<F: Flash>(
+    front: &mut Front<'_, F>,
+    layout: Layout,
+    sums: Carried,
+) -> Result<Finished, Lost>
+    requires place { front.old.at ≡ (slot_of layout 1).at }
+    requires fits { front.old.size ≤ slot_size (geometry_of layout) }
+    requires carries { IfSome (option_map (area front.old.at front.old.size) (F.state front.old.flash.now).bytes) (Carries sums) }
+    ensures same_reference { front.new.flash.ghost_name ≡ front.old.flash.ghost_name }
+    ensures calls { Calls (area_spot (slot_of layout 1) ∷ []) (upload_end result) (F.state front.old.flash.now) (F.state front.new.flash.now) }
+    ensures kept { (F.state front.new.flash.now).bytes ≡ (F.state front.old.flash.now).bytes }
+    ensures reads { ReadsAtMost 131102 (F.state front.old.flash.now).bytes_read (F.state front.new.flash.now).bytes_read }
+    ensures digest { IfOk result (λ finished. IfSome (option_map (area front.old.at front.old.size) (F.state front.old.flash.now).bytes) (λ held. finished.digest ≡ sha256 held)) }
+    ensures image { IfOk result (λ finished. IfSome (option_map (area front.old.at front.old.size) (F.state front.old.flash.now).bytes) (λ held. finished.image ≡ good_image held)) }
+    ensures lost { IfErr result (λ lost. lost.state.layout ≡ layout) }
+    ensures worn { IfErr result (λ lost. lost.fault ≡ UploadFault.Worn → ⊥) }
+    ensures formatted { IfErr result (λ lost. lost.fault ≡ UploadFault.Unformatted → ⊥) }
+{
+    match sums.finish(front) {
+        Ok(finished) => Ok(finished),
+        Err(fault) => Err(lost(layout, from_read(fault))),
+    }
+}
+
+/// What is known of an upload whose bytes were all added to the sums: its digest, and the good image that it begins with.
+pub fn finish<F: Flash>(
+    layout: Layout,
+    flash: &mut F,
+    size: u32,
+    sums: Carried,
+) -> Result<Finished, Lost>
+    requires layout { geometry_of layout ≡ (F.state flash.old).geometry }
+    requires fits { size ≤ slot_size (geometry_of layout) }
+    requires carries { IfSome (F.state flash.old).bytes (λ held. Carries sums (area (slot_of layout 1).at size held)) }
+    ensures calls { Calls (area_spot (slot_of layout 1) ∷ []) (upload_end result) (F.state flash.old) (F.state flash.new) }
+    ensures kept { (F.state flash.new).bytes ≡ (F.state flash.old).bytes }
+    ensures reads { ReadsAtMost 131102 (F.state flash.old).bytes_read (F.state flash.new).bytes_read }
+    ensures digest { IfOk result (λ finished. IfSome (F.state flash.old).bytes (λ held. finished.digest ≡ sha256 (area (slot_of layout 1).at size held))) }
+    ensures image { IfOk result (λ finished. IfSome (F.state flash.old).bytes (λ held. finished.image ≡ good_image (area (slot_of layout 1).at size held))) }
+    ensures lost { IfErr result (λ lost. lost.state.layout ≡ layout) }
+    ensures worn { IfErr result (λ lost. lost.fault ≡ UploadFault.Worn → ⊥) }
+    ensures formatted { IfErr result (λ lost. lost.fault ≡ UploadFault.Unformatted → ⊥) }
+{
+    regions_lie_apart();
+    let mut front = front_of(flash, layout.slot(1).at, size);
+    match finish_in(&mut front, layout, sums) {
+        Ok(finished) => Ok(finished),
+        Err(lost) => Err(lost),
+    }
+}
