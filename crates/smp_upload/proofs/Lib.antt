@@ -6,6 +6,7 @@ pub mod Frames
 pub mod Parted
 pub mod Parts
 pub mod Putting
+pub mod Rescued
 pub mod Resolved
 pub mod Sides
 pub mod Stored

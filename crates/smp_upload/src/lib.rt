@@ -8,6 +8,7 @@ mod faults;
 mod laws;
 mod reading;
 mod records;
+mod rescue;
 mod settling;
 mod states;
 mod storing;
