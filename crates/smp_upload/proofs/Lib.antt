@@ -3,11 +3,13 @@ pub mod Composing
 pub mod Costs
 pub mod Ends
 pub mod Frames
+pub mod Needed
 pub mod Parted
 pub mod Parts
 pub mod Putting
 pub mod Rescued
 pub mod Resolved
+pub mod Restored
 pub mod Sides
 pub mod Stored
 pub mod Tellings
