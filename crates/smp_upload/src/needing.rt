@@ -7,12 +7,11 @@ ghost use Rattle.smp_upload.specs.Bytes.{CleanFrom};
 ghost use Rattle.smp_upload.specs.Faults.{upload_end};
 ghost use Rattle.smp_upload.specs.Rescuing.{HeldAs, NeedsJust};
 
-use crate::faults::{from_call, lost};
+use crate::below::is_clean_behind;
 use crate::states::{Lost, UploadFault};
 use smp_flash::{Flash, Layout};
 use smp_model::Announcement;
 use smp_progress::{Progress, records_are_told_apart};
-use smp_slot::{slots_fit, tail_is_clean};
 
 /// How many records a mount needs: one to end a rescue, two for a page that is not clean, none else.
 pub fn records_needed<F: Flash>(
@@ -39,13 +38,12 @@ pub fn records_needed<F: Flash>(
     ensures formatted { IfErr result (λ lost. lost.fault ≡ UploadFault.Unformatted → ⊥) }
 {
     records_are_told_apart();
-    slots_fit();
     if rescue {
         return Ok(1);
     }
-    match tail_is_clean(flash, layout.slot(1), offset) {
+    match is_clean_behind(layout, flash, offset) {
         Ok(true) => Ok(0),
         Ok(false) => Ok(2),
-        Err(fault) => Err(lost(layout, from_call(fault))),
+        Err(lost) => Err(lost),
     }
 }
