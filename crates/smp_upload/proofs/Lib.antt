@@ -3,6 +3,7 @@ pub mod Composing
 pub mod Costs
 pub mod Ends
 pub mod Frames
+pub mod Looks
 pub mod Needed
 pub mod Parted
 pub mod Parts
@@ -12,4 +13,5 @@ pub mod Resolved
 pub mod Restored
 pub mod Sides
 pub mod Stored
+pub mod Summed
 pub mod Tellings

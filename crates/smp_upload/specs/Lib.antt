@@ -1,6 +1,7 @@
 pub mod Bytes
 pub mod Counting
 pub mod Faults
+pub mod Mounting
 pub mod Moves
 pub mod Needs
 pub mod Reading
@@ -8,3 +9,4 @@ pub mod States
 pub mod Free
 pub mod Storing
 pub mod Rescuing
+pub mod Summing

@@ -6,6 +6,7 @@ mod choosing;
 mod chunking;
 mod faults;
 mod laws;
+mod looking;
 mod needing;
 mod reading;
 mod records;
@@ -14,6 +15,7 @@ mod restoring;
 mod settling;
 mod states;
 mod storing;
+mod summing;
 
 pub use laws::{sides_are_told_apart, sides_outlast_other_changes};
 pub use states::{Chunked, Idle, Lost, Mounted, Pending, Receiving, UploadFault, Unmounted, Whole};
