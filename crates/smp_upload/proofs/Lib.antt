@@ -4,6 +4,7 @@ pub mod Costs
 pub mod Ends
 pub mod Frames
 pub mod Looks
+pub mod Mounts
 pub mod Needed
 pub mod Parted
 pub mod Parts
@@ -15,3 +16,4 @@ pub mod Sides
 pub mod Stored
 pub mod Summed
 pub mod Tellings
+pub mod Young
