@@ -13,6 +13,7 @@ pub mod Rescued
 pub mod Resolved
 pub mod Restored
 pub mod Sides
+pub mod Sights
 pub mod Stored
 pub mod Summed
 pub mod Tellings

@@ -53,7 +53,7 @@ partial_spoils one layout p a o sums bytes lt f side st =
 pub told_partial : OneSide → (layout : Layout) (p : ProgressState) (a : Announcement) (o : ℕ) (sums : Carried) (x : Option (List ℕ)) → o < a.length → IfSome x (Filled layout p a o sums) → IfSome x (Spoils layout false)
 told_partial one layout p a o sums x lt f = IfSome-map (Filled layout p a o sums) (Spoils layout false) x (λ u ff. partial_spoils one layout p a o sums u lt ff) f
 
-partial_says : OneSide → (layout : Layout) (p : ProgressState) (a : Announcement) (o : ℕ) (sums : Carried) (bytes : List ℕ) → p.layout ≡ layout → o < a.length → Filled layout p a o sums bytes → Storing layout p a o sums bytes
+pub partial_says : OneSide → (layout : Layout) (p : ProgressState) (a : Announcement) (o : ℕ) (sums : Carried) (bytes : List ℕ) → p.layout ≡ layout → o < a.length → Filled layout p a o sums bytes → Storing layout p a o sums bytes
 partial_says one layout p a o sums bytes place lt f =
     let st : SideStands layout f.side bytes = record { rescue = false; stands = f.stands.stands } in
     let up = found f.side.upload (record { announcement = a; offset = o }) f.upload in
