@@ -1,6 +1,6 @@
 -- What a mount does, by how it ended.
 use Rattle.std.proofs.Common.{◌≡◌, ℕ, ◌+◌, ◌<◌, ◌≤◌, Bool, true, false, Option, Some, None, List, [], ◌∷◌, refl, sym, ◌∙◌, ap, subst, arith}
-use Rattle.std.specs.Prelude.{IfSome, IsSomeAnd, Result, Ok, Err}
+use Rattle.std.specs.Prelude.{IfSome, IsSomeAnd, IsTrue, Result, Ok, Err}
 use Rattle.smp_flash.specs.Area.{Told}
 use Rattle.smp_flash.specs.Calls.{Calls, Smaller}
 use Rattle.smp_flash.specs.Layout.{progress_of, upload_spots}
@@ -259,3 +259,7 @@ mounts_after layout (Err lost) a b c calls same m = record {
   fresh = tt;
   spends = tt;
 }
+
+pub no_take : (b : Bool) → b ≡ false → IsTrue b → ⊥
+no_take true e is = cc e
+no_take false e is = cc is

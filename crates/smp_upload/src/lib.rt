@@ -7,6 +7,7 @@ mod chunking;
 mod faults;
 mod laws;
 mod looking;
+mod mounting;
 mod needing;
 mod reading;
 mod records;

@@ -1,5 +1,5 @@
 // The records that a mount needs for an unfinished upload.
-ghost use Rattle.std.specs.Prelude.{◌≡◌, ◌+◌, ◌<◌, ◌≤◌, ◌%◌, IsTrue, IfOk, IfErr, IfSome};
+ghost use Rattle.std.specs.Prelude.{◌≡◌, ◌+◌, ◌<◌, ◌≤◌, ◌%◌, true, false, IfOk, IfErr, IfSome};
 ghost use Rattle.smp_flash.specs.Calls.{Calls, ReadsAtMost};
 ghost use Rattle.smp_flash.specs.Geometry.{slot_size};
 ghost use Rattle.smp_flash.specs.Layout.{geometry_of, upload_spots};
@@ -32,7 +32,9 @@ pub fn records_needed<F: Flash>(
     ensures needs { IfOk result (λ n. IfSome (F.state flash.old).bytes (NeedsJust layout n)) }
     ensures clean { IfOk result (λ n. n ≡ 0 → IfSome (F.state flash.old).bytes (CleanFrom layout offset announcement.length)) }
     ensures inner { IfOk result (λ n. n ≡ 2 → 0 < offset % (geometry_of layout).page) }
-    ensures rescue { IfOk result (λ n. n ≡ 1 → IsTrue rescue) }
+    ensures rescue { IfOk result (λ n. n ≡ 1 → rescue ≡ true) }
+    ensures plain { IfOk result (λ n. (n ≡ 1 → ⊥) → rescue ≡ false) }
+    ensures most { IfOk result (λ n. n ≤ 2) }
     ensures lost { IfErr result (λ lost. lost.state.layout ≡ layout) }
     ensures worn { IfErr result (λ lost. lost.fault ≡ UploadFault.Worn → ⊥) }
     ensures formatted { IfErr result (λ lost. lost.fault ≡ UploadFault.Unformatted → ⊥) }
