@@ -3,6 +3,7 @@ pub mod Counting
 pub mod Faults
 pub mod Moves
 pub mod Needs
+pub mod Primary
 pub mod Reading
 pub mod States
 pub mod Free

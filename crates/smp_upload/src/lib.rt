@@ -6,6 +6,8 @@ mod choosing;
 mod chunking;
 mod faults;
 mod laws;
+mod marking;
+mod primary;
 mod reading;
 mod records;
 mod settling;
@@ -13,4 +15,5 @@ mod states;
 mod storing;
 
 pub use laws::{sides_are_told_apart, sides_outlast_other_changes};
+pub use primary::{confirm, is_confirmed};
 pub use states::{Chunked, Idle, Lost, Mounted, Pending, Receiving, UploadFault, Unmounted, Whole};
