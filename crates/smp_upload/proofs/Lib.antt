@@ -1,8 +1,11 @@
+pub mod Apartness
 pub mod Begun
 pub mod Composing
+pub mod Confirmed
 pub mod Costs
 pub mod Ends
 pub mod Frames
+pub mod Marked
 pub mod Parted
 pub mod Parts
 pub mod Putting

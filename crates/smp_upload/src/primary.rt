@@ -1,18 +1,18 @@
 // The primary slot: the image that runs, and whether it is confirmed.
-ghost use Rattle.std.specs.Prelude.{◌≡◌, ◌∷◌, [], false, Some, OnOk, IfOk, IfSome};
+ghost use Rattle.std.specs.Prelude.{◌≡◌, ◌∷◌, [], true, false, OnOk, IfOk, IfSome};
 ghost use Rattle.smp_flash.specs.Area.{area, dirty, spot, Keeps, Told};
-ghost use Rattle.smp_flash.specs.Calls.{Calls, ReadsAtMost, ChangesAtMost};
+ghost use Rattle.smp_flash.specs.Calls.{Calls, Smaller, ReadsAtMost, ChangesAtMost};
 ghost use Rattle.smp_flash.specs.Layout.{geometry_of, slot_of, area_spot};
 ghost use Rattle.smp_flash.specs.State.{ended};
-ghost use Rattle.smp_model.specs.Image.{good_image};
 ghost use Rattle.smp_model.specs.Sides.{Confirm};
 ghost use Rattle.smp_slot.specs.Marks.{confirmed_page};
 ghost use Rattle.smp_slot.specs.Slots.{last_page};
-ghost use Rattle.smp_upload.specs.Bytes.{active_in, confirmed_in, SideReadable};
-ghost use Rattle.smp_upload.specs.Counting.{Pays};
-ghost use Rattle.smp_upload.specs.Moves.{Moved, Does, one_step};
+ghost use Rattle.smp_upload.specs.Bytes.{confirmed_in};
+ghost use Rattle.smp_upload.specs.Counting.{AimsAtSlot, Pays};
+ghost use Rattle.smp_upload.specs.Moves.{Moved, one_step};
 ghost use Rattle.smp_upload.specs.Primary.{Confirms, SaysOn};
 
+use crate::laws::sides_are_told_apart;
 use smp_flash::{CallFault, Flash, Layout, regions_count_what_begins_there};
 use smp_progress::progress_outlasts_other_changes;
 use smp_slot::{confirm as write_flag, confirmed, slots_fit};
@@ -28,6 +28,23 @@ pub fn is_confirmed<F: Flash>(layout: &Layout, flash: &mut F) -> Result<bool, Ca
 {
     slots_fit();
     confirmed(flash, layout.slot(0))
+}
+
+/// Writes the flag of the primary slot, which is not confirmed.
+fn put_flag<F: Flash>(layout: &Layout, flash: &mut F) -> Result<(), CallFault>
+    requires layout { geometry_of layout.now ≡ (F.state flash.old).geometry }
+    requires unconfirmed { IfSome (F.state flash.old).bytes (λ held. confirmed_in layout.now held ≡ false) }
+    ensures calls { Calls (spot (last_page (slot_of layout.now 0) (geometry_of layout.now)) (geometry_of layout.now).page) (ended result) (F.state flash.old) (F.state flash.new) }
+    ensures reads { ReadsAtMost (geometry_of layout.now).page (F.state flash.old).bytes_read (F.state flash.new).bytes_read }
+    ensures changes { ChangesAtMost 1 1 (F.state flash.old).changes (F.state flash.new).changes }
+    ensures erases { IfSome (F.state flash.old).bytes (λ held. ChangesAtMost 1 (dirty (geometry_of layout.now).page (area (last_page (slot_of layout.now 0) (geometry_of layout.now)) (geometry_of layout.now).page held)) (F.state flash.old).changes (F.state flash.new).changes) }
+    ensures ok { OnOk result (IfSome (F.state flash.new).bytes (λ held. confirmed_in layout.now held ≡ true)) }
+    ensures whole { OnOk result (IfSome (F.state flash.new).bytes (λ held. area (last_page (slot_of layout.now 0) (geometry_of layout.now)) (geometry_of layout.now).page held ≡ confirmed_page (geometry_of layout.now).page)) }
+    ensures pays { OnOk result (AimsAtSlot layout.now 0 (F.state flash.old).aim → Smaller (F.state flash.old).patience (F.state flash.new).patience) }
+{
+    slots_fit();
+    regions_count_what_begins_there();
+    write_flag(flash, layout.slot(0))
 }
 
 /// Confirms the image that runs, which is not confirmed.
@@ -49,8 +66,7 @@ pub fn confirm<F: Flash>(layout: &Layout, flash: &mut F) -> Result<(), CallFault
     ensures pays { OnOk result (Pays layout.now (one_step Confirm) (F.state flash.old) (F.state flash.new)) }
     ensures says { Told (SaysOn layout.now) (F.state flash.old).bytes (F.state flash.new).bytes }
 {
-    slots_fit();
-    regions_count_what_begins_there();
+    sides_are_told_apart();
     progress_outlasts_other_changes();
-    write_flag(flash, layout.slot(0))
+    put_flag(layout, flash)
 }
