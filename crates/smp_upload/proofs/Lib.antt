@@ -4,6 +4,8 @@ pub mod Composing
 pub mod Confirmed
 pub mod Costs
 pub mod Ends
+pub mod Erased
+pub mod Fading
 pub mod Frames
 pub mod Marked
 pub mod Parted

@@ -1,5 +1,6 @@
 pub mod Bytes
 pub mod Counting
+pub mod Erasing
 pub mod Faults
 pub mod Moves
 pub mod Needs

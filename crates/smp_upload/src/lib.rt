@@ -4,6 +4,7 @@
 mod below;
 mod choosing;
 mod chunking;
+mod erasing;
 mod faults;
 mod laws;
 mod marking;
