@@ -12,6 +12,7 @@ pub mod Parted
 pub mod Parts
 pub mod Putting
 pub mod Resolved
+pub mod Running
 pub mod Sides
 pub mod Stored
 pub mod Tellings

@@ -16,5 +16,5 @@ mod states;
 mod storing;
 
 pub use laws::{sides_are_told_apart, sides_outlast_other_changes};
-pub use primary::{confirm, is_confirmed};
+pub use primary::{active_image, confirm, is_confirmed};
 pub use states::{Chunked, Idle, Lost, Mounted, Pending, Receiving, UploadFault, Unmounted, Whole};

@@ -1,21 +1,70 @@
 // The primary slot: the image that runs, and whether it is confirmed.
-ghost use Rattle.std.specs.Prelude.{◌≡◌, ◌∷◌, [], true, false, OnOk, IfOk, IfSome};
+ghost use Rattle.std.specs.Prelude.{◌≡◌, ◌∷◌, [], true, false, Some, Ok, OnOk, IfOk, IfSome};
 ghost use Rattle.smp_flash.specs.Area.{area, dirty, spot, Keeps, Told};
 ghost use Rattle.smp_flash.specs.Calls.{Calls, Smaller, ReadsAtMost, ChangesAtMost};
 ghost use Rattle.smp_flash.specs.Layout.{geometry_of, slot_of, area_spot};
 ghost use Rattle.smp_flash.specs.State.{ended};
+ghost use Rattle.smp_model.specs.Image.{good_image};
 ghost use Rattle.smp_model.specs.Sides.{Confirm};
 ghost use Rattle.smp_slot.specs.Marks.{confirmed_page};
 ghost use Rattle.smp_slot.specs.Slots.{last_page};
-ghost use Rattle.smp_upload.specs.Bytes.{confirmed_in};
+ghost use Rattle.smp_tlv.specs.State.{image_end};
+ghost use Rattle.smp_upload.specs.Bytes.{active_in, confirmed_in, SideReadable};
 ghost use Rattle.smp_upload.specs.Counting.{AimsAtSlot, Pays};
 ghost use Rattle.smp_upload.specs.Moves.{Moved, one_step};
 ghost use Rattle.smp_upload.specs.Primary.{Confirms, SaysOn};
 
 use crate::laws::sides_are_told_apart;
-use smp_flash::{CallFault, Flash, Layout, regions_count_what_begins_there};
+use crate::reading::image_at;
+use smp_flash::{CallFault, Flash, Layout, Operation, regions_count_what_begins_there, regions_lie_apart};
+use smp_model::{ImageFault, ImageInfo, Version, good_images_are_right};
 use smp_progress::progress_outlasts_other_changes;
 use smp_slot::{confirm as write_flag, confirmed, slots_fit};
+
+/// An image of version 0.0.0, of no bytes, with a hash of zeros.
+const NO_IMAGE: ImageInfo = ImageInfo {
+    version: Version {
+        major: 0,
+        minor: 0,
+        revision: 0,
+        build: 0,
+    },
+    flags: 0,
+    covered: 0,
+    end: 0,
+    hash: [0; 32],
+};
+
+/// What is answered by what was found: only the holder's faults are faults of the call.
+fn answer(found: Result<ImageInfo, ImageFault>) -> Result<ImageInfo, CallFault>
+    ensures ends { ended result ≡ image_end found }
+    ensures image { IfOk found (λ image. result ≡ Ok image) }
+{
+    match found {
+        Ok(image) => Ok(image),
+        Err(ImageFault::Fault) => Err(CallFault::Fault(Operation::Read)),
+        Err(ImageFault::Off) => Err(CallFault::Off),
+        Err(_) => Ok(NO_IMAGE),
+    }
+}
+
+/// The image that runs, of a flash that stands for some state: the one that the primary slot begins with. No byte changes.
+///
+/// A flash that does not tell its bytes may hold no image there, where something other than this crate's calls changed it. Then
+/// the answer is an image of version 0.0.0, of no bytes, with a hash of zeros; no read has failed.
+pub fn active_image<F: Flash>(layout: &Layout, flash: &mut F) -> Result<ImageInfo, CallFault>
+    requires layout { geometry_of layout.now ≡ (F.state flash.old).geometry }
+    requires readable { IfSome (F.state flash.old).bytes (SideReadable layout.now) }
+    ensures calls { Calls (area_spot (slot_of layout.now 0) ∷ []) (ended result) (F.state flash.old) (F.state flash.new) }
+    ensures kept { (F.state flash.new).bytes ≡ (F.state flash.old).bytes }
+    ensures reads { ReadsAtMost 131102 (F.state flash.old).bytes_read (F.state flash.new).bytes_read }
+    ensures image { IfOk result (λ image. IfSome (F.state flash.old).bytes (λ held. good_image (active_in layout.now held) ≡ Some image)) }
+{
+    regions_lie_apart();
+    good_images_are_right();
+    let slot = layout.slot(0);
+    answer(image_at(flash, slot.at, slot.length - layout.geometry().page))
+}
 
 /// Whether the image that runs is confirmed. No byte changes.
 pub fn is_confirmed<F: Flash>(layout: &Layout, flash: &mut F) -> Result<bool, CallFault>
