@@ -1,7 +1,7 @@
 -- The image that runs is confirmed.
-use Rattle.std.proofs.Common.{◌≡◌, ◌⊎◌, inl, inr, ℕ, ◌+◌, ◌-◌, ◌*◌, ◌<◌, ◌≤◌, Bool, true, false, Option, Some, None, List, [], ◌∷◌, length, refl, sym, ◌∙◌, ap, subst, arith}
+use Rattle.std.proofs.Common.{◌≡◌, ◌⊎◌, inl, inr, ℕ, ◌+◌, ◌-◌, ◌*◌, ◌≤◌, Bool, true, false, Option, Some, None, List, [], ◌∷◌, refl, sym, ◌∙◌, subst, arith}
 use Rattle.std.specs.Prelude.{IfSome}
-use Rattle.smp_flash.specs.Area.{area, spot, Clear, Keeps, Told}
+use Rattle.smp_flash.specs.Area.{spot, Clear, Keeps, Told}
 use Rattle.smp_flash.specs.Calls.{Calls, Smaller}
 use Rattle.smp_flash.specs.Geometry.{slot_size, Regular}
 use Rattle.smp_flash.specs.Layout.{geometry_of, slot_of, progress_of, scratch_of, area_spot}
@@ -15,16 +15,15 @@ use Rattle.smp_gate.specs.Newest.{AgesAtMost}
 use Rattle.smp_model.specs.declared.device.Side.{Side}
 use Rattle.smp_model.specs.Sides.{Confirm}
 use Rattle.smp_slot.specs.Slots.{last_page}
-use Rattle.smp_upload.specs.Bytes.{SideStandsAs, SideStands, SideShows, confirmed_in, pending_in, record_of}
+use Rattle.smp_upload.specs.Bytes.{SideStandsAs, SideStands, SideShows, confirmed_in, record_of}
 use Rattle.smp_upload.specs.Counting.{Pays, AimsAtSlot}
-use Rattle.smp_upload.specs.Moves.{Reached, Moves, Does, KeepsPending, Moved, one_step}
+use Rattle.smp_upload.specs.Moves.{Reached, Moves, KeepsPending, Moved, one_step}
 use Rattle.smp_upload.specs.Primary.{Confirms, SaysOn}
-use Rattle.smp_upload.specs.States.{Known, Says}
+use Rattle.smp_upload.specs.States.{Says}
 use Rattle.smp_upload.proofs.Apartness.{active_kept, pending_by, clean_by, ages_clear}
 use Rattle.smp_upload.proofs.Composing.{part_none, part_whole}
 use Rattle.smp_upload.proofs.Frames.{record_kept, accepts_kept, progress_kept, lawful, slot_large, ProgressLasts}
 use Rattle.smp_upload.proofs.Sides.{OneSide, says_shows}
-use Rattle.smp_upload.proofs.Tellings.{told_last}
 
 -- the slot's last page
 abbrev pub flag_spots : Layout → List (ℕ × ℕ)
@@ -93,9 +92,11 @@ confirmed_shows layout side b old new k e h = record {
 }
 
 confirm_does : OneSide → (layout : Layout) (old new : List ℕ) → Keeps (flag_spots layout) old new → confirmed_in layout new ≡ true → Confirms layout old new
-confirm_does one layout old new k e known is says = record { does = λ side st.
-    let s : Says (record known { layout = layout }) old = subst (λ (l : Layout). Says (record known { layout = l }) old) is says in
-    confirmed_shows layout side true old new k e (says_shows one (record known { layout = layout }) side old s st) }
+confirm_does one layout old new k e known is says = record {
+  does = λ side st.
+      let s : Says (record known { layout = layout }) old = subst (λ (l : Layout). Says (record known { layout = l }) old) is says in
+      confirmed_shows layout side true old new k e (says_shows one (record known { layout = layout }) side old s st);
+}
 
 confirm_says : ProgressLasts → (layout : Layout) (old new : List ℕ) → Keeps (flag_spots layout) old new → SaysOn layout old new
 confirm_says lasts layout old new k known is says =

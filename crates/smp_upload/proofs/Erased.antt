@@ -1,30 +1,27 @@
 -- An upload is given up, and the secondary slot is erased.
-use Rattle.std.proofs.Common.{◌≡◌, ◌⊎◌, inl, inr, ℕ, zero, suc, ◌+◌, ◌-◌, ◌*◌, ◌/◌, ◌%◌, ◌<◌, ◌≤◌, Bool, true, false, Option, Some, None, List, [], ◌∷◌, length, refl, sym, ◌∙◌, ap, subst, arith}
-use Rattle.std.specs.Prelude.{IfSome, IsSome, IsSomeAnd, option_map, is_some}
-use Rattle.smp_flash.specs.Area.{area, blank, dirty, dirty_pages, spot, Clear, Keeps, Fades, Told}
-use Rattle.smp_flash.specs.Calls.{Calls, Smaller, Goes, ReadsAtMost, ChangesAtMost}
+use Rattle.std.proofs.Common.{◌≡◌, ◌⊎◌, inl, inr, ℕ, zero, suc, ◌+◌, ◌*◌, ◌/◌, ◌≤◌, Bool, true, false, Option, Some, None, List, [], ◌∷◌, refl, sym, ◌∙◌, ap, subst, arith}
+use Rattle.std.specs.Prelude.{IfSome, IsSome, option_map, is_some}
+use Rattle.smp_flash.specs.Area.{dirty, dirty_pages, spot, Clear, Keeps, Fades, Told}
+use Rattle.smp_flash.specs.Calls.{Calls, Smaller, ReadsAtMost, ChangesAtMost}
 use Rattle.smp_flash.specs.Geometry.{slot_size, Regular, IsPage}
 use Rattle.smp_flash.specs.Layout.{geometry_of, slot_of, progress_of, upload_spots}
 use Rattle.smp_flash.specs.State.{FlashState, End, Changes}
 use Rattle.smp_flash.specs.State.End.{Went}
 use Rattle.smp_flash.specs.declared.layout.Layout.{Layout}
-use Rattle.smp_flash.proofs.Passing.{Calls-wider, Calls-refl, Covers-within, Smaller-then, reads_add, reads_more, changes_add, changes_more}
+use Rattle.smp_flash.proofs.Passing.{Calls-wider, Calls-refl, Covers-within, reads_add, reads_more, changes_add, changes_more}
 use Rattle.smp_flash.proofs.Sizes.{regular, each_page}
 use Rattle.smp_flash.proofs.Telling.{Told-with, Told-both, Told-map, Told-after, Told-same, IfSome-map}
 use Rattle.smp_gate.specs.Newest.{sides, AgesAtMost}
 use Rattle.smp_model.specs.declared.device.Side.{Side}
 use Rattle.smp_model.specs.declared.device.Upload.{Upload}
-use Rattle.smp_model.specs.declared.image.ImageInfo.{ImageInfo}
-use Rattle.smp_model.specs.Sides.{SideStep, Drop}
-use Rattle.smp_model.specs.Uploads.{uploaded_image, is_spoiled}
+use Rattle.smp_model.specs.Sides.{Drop}
 use Rattle.smp_progress.specs.Cells.{HasRecord, OldOrThis}
 use Rattle.smp_progress.specs.State.{ProgressState, ProgressSays, AimsAtRecord}
 use Rattle.smp_progress.specs.declared.record.Record.TheVariants as records
-use Rattle.smp_upload.specs.Bytes.{SideStandsAs, SideStands, SideShows, Accepts, Clean, pending_in, record_of}
-use Rattle.smp_upload.specs.Counting.{Pays, CountsSteps}
+use Rattle.smp_upload.specs.Bytes.{SideStandsAs, SideStands, SideShows, Accepts, Clean, record_of}
+use Rattle.smp_upload.specs.Counting.{Pays}
 use Rattle.smp_upload.specs.Erasing.{FreeWith, known_gone, records_if, reads_if, writes_if, erases_if}
-use Rattle.smp_upload.specs.Free.{Free}
-use Rattle.smp_upload.specs.Moves.{Moves, Does, KeepsPending, Moved, Done, no_steps, one_step, and_then}
+use Rattle.smp_upload.specs.Moves.{Moves, Does, KeepsPending, Moved, Done, no_steps, one_step}
 use Rattle.smp_upload.specs.States.{Known, Says, Announced, announced}
 use Rattle.smp_upload.proofs.Apartness.{active_by, confirmed_by, ages_clear}
 use Rattle.smp_upload.proofs.Begun.{free_pending}
@@ -42,8 +39,10 @@ abbrev Freely : Layout → ProgressState → Bool → List ℕ → Type 0
 Freely layout p there bytes = FreeWith layout p there bytes
 
 drop_moves : OneSide → (layout : Layout) (p : ProgressState) (there : Bool) (old new : List ℕ) → Freely layout p there old → Keeps (sides (progress_of layout)) old new → OldOrThis layout records.None old new → Moves layout (one_step Drop) old new
-drop_moves one layout p there old new f k either = record { moves = λ side st.
-    put_reached layout side (Drop ∷ []) false None old new st k either tt (good_free side.pending None (free_pending one layout p side old f.free st)) (part_whole side (Drop ∷ [])) }
+drop_moves one layout p there old new f k either = record {
+  moves = λ side st.
+      put_reached layout side (Drop ∷ []) false None old new st k either tt (good_free side.pending None (free_pending one layout p side old f.free st)) (part_whole side (Drop ∷ []));
+}
 
 drop_does : OneSide → (layout : Layout) (p : ProgressState) (there : Bool) (old new : List ℕ) → Freely layout p there old → Keeps (sides (progress_of layout)) old new → HasRecord layout records.None new → Does layout (one_step Drop) old new
 drop_does one layout p there old new f k has = record { does = λ side st. none_shows layout st.rescue side old new (free_pending one layout p side old f.free st) st.stands k has }
@@ -112,14 +111,18 @@ free_shows one layout p side bytes f st =
     subst (λ (l : Layout). SideShows l side bytes) f.free.layout_is (says_shows one known side bytes f.free.says at_known)
 
 none_does : OneSide → (layout : Layout) (p : ProgressState) (bytes : List ℕ) → Freely layout p false bytes → Does layout (one_step Drop) bytes bytes
-none_does one layout p bytes f = record { does = λ side st.
-    subst (λ (up : Option Upload). SideShows layout (record side { upload = up }) bytes) (free_upload one layout p side bytes f st) (free_shows one layout p side bytes f st) }
+none_does one layout p bytes f = record {
+  does = λ side st.
+      subst (λ (up : Option Upload). SideShows layout (record side { upload = up }) bytes) (free_upload one layout p side bytes f st) (free_shows one layout p side bytes f st);
+}
 
 none_pays : OneSide → (layout : Layout) (p : ProgressState) (s : FlashState) → IfSome s.bytes (Freely layout p false) → Pays layout (one_step Drop) s s
-none_pays one layout p s f = record { pays = λ side st is. elim is [
-  | inl now ↦ some_told (Freely layout p false) (SideStands layout side) s.bytes (Smaller s.patience s.patience) f st (λ u free stands. absurd (let e = free_upload one layout p side u free stands in cc (subst IsSome e now.0)))
-  | inr none ↦ absurd none
-] }
+none_pays one layout p s f = record {
+  pays = λ side st is. elim is [
+    | inl now ↦ some_told (Freely layout p false) (SideStands layout side) s.bytes (Smaller s.patience s.patience) f st (λ u free stands. absurd (let e = free_upload one layout p side u free stands in cc (subst IsSome e now.0)))
+    | inr none ↦ absurd none
+  ];
+}
 
 pub none_done : OneSide → (layout : Layout) (p : ProgressState) (there : Bool) (s : FlashState) → there ≡ false → IfSome s.bytes (FreeWith layout p there) → Done layout (upload_spots layout) (records_if there) (one_step Drop) s s
 none_done one layout p true s e f = absurd (cc e)
@@ -177,8 +180,10 @@ wiped_shows layout side old new g f = record {
 }
 
 wipe_moves : OneSide → (layout : Layout) (p : ProgressState) (old new : List ℕ) → Says (known_gone layout p) old → Fades (slot_of layout 1).at (slot_of layout 1).length old new → Moves layout no_steps old new
-wipe_moves one layout p old new says f = record { moves = λ side st.
-    record { reached = side; part = part_none side []; stands = record { rescue = false; stands = (wiped_shows layout side old new (gone one layout p side old says st) f).stands } } }
+wipe_moves one layout p old new says f = record {
+  moves = λ side st.
+      record { reached = side; part = part_none side []; stands = record { rescue = false; stands = (wiped_shows layout side old new (gone one layout p side old says st) f).stands } };
+}
 
 wipe_does : OneSide → (layout : Layout) (p : ProgressState) (old new : List ℕ) → Says (known_gone layout p) old → Fades (slot_of layout 1).at (slot_of layout 1).length old new → Does layout no_steps old new
 wipe_does one layout p old new says f = record { does = λ side st. wiped_shows layout side old new (gone one layout p side old says st) f }

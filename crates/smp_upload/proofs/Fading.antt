@@ -1,5 +1,5 @@
 -- What an erase, also a torn one, leaves of a mark.
-use Rattle.std.proofs.Common.{◌≡◌, ◌⊎◌, inl, inr, ℕ, ◌+◌, ◌-◌, Bool, true, false, Option, Some, None, List, [], ◌∷◌, refl, sym, ◌∙◌, ap, subst, arith}
+use Rattle.std.proofs.Common.{◌≡◌, inl, inr, ℕ, ◌+◌, ◌-◌, Bool, true, false, None, List, [], ◌∷◌, refl, sym, ◌∙◌, ap, subst, arith}
 use Rattle.std.specs.Str.{bytes_eq}
 use Rattle.std.proofs.lemmas.Slice.Eq.{bytes_eq-Decides}
 use Rattle.smp_flash.specs.Area.{area, Faded}
@@ -7,7 +7,6 @@ use Rattle.smp_flash.specs.Layout.{slot_of}
 use Rattle.smp_flash.specs.declared.layout.Area.{Area}
 use Rattle.smp_flash.specs.declared.layout.Layout.{Layout}
 use Rattle.smp_flash.proofs.Areas.{Faded-area}
-use Rattle.smp_model.specs.declared.upload.Mark.{Mark}
 use Rattle.smp_slot.specs.Marks.{is_marked, is_flagged, mark_by, trailer_magic}
 use Rattle.smp_upload.specs.Bytes.{pending_in}
 

@@ -1,7 +1,7 @@
 -- The secondary slot is marked.
-use Rattle.std.proofs.Common.{◌≡◌, ◌⊎◌, inl, inr, ℕ, ◌+◌, ◌-◌, ◌*◌, ◌<◌, ◌≤◌, Bool, true, false, Option, Some, None, List, [], ◌∷◌, length, refl, sym, ◌∙◌, ap, subst, arith}
+use Rattle.std.proofs.Common.{◌≡◌, ◌⊎◌, inl, inr, ℕ, ◌+◌, ◌-◌, ◌*◌, ◌≤◌, false, Option, Some, None, List, [], ◌∷◌, length, refl, sym, ◌∙◌, ap, subst, arith}
 use Rattle.std.specs.Prelude.{◌↔◌, IfSome, IsSome}
-use Rattle.smp_flash.specs.Area.{area, spot, Clear, Keeps, Told}
+use Rattle.smp_flash.specs.Area.{spot, Clear, Keeps, Told}
 use Rattle.smp_flash.specs.Calls.{Calls, Smaller}
 use Rattle.smp_flash.specs.Geometry.{slot_size, Regular}
 use Rattle.smp_flash.specs.Layout.{geometry_of, slot_of, progress_of, upload_spots}
@@ -10,7 +10,7 @@ use Rattle.smp_flash.specs.State.End.{Went}
 use Rattle.smp_flash.specs.declared.layout.Layout.{Layout}
 use Rattle.smp_flash.proofs.Passing.{Calls-wider, Covers-within}
 use Rattle.smp_flash.proofs.Sizes.{regular}
-use Rattle.smp_flash.proofs.Telling.{Told-with, Told-map, IfSome-map}
+use Rattle.smp_flash.proofs.Telling.{Told-map, IfSome-map}
 use Rattle.smp_gate.specs.Newest.{AgesAtMost}
 use Rattle.smp_model.specs.declared.device.Side.{Side}
 use Rattle.smp_model.specs.declared.device.Upload.{Upload}
@@ -20,12 +20,12 @@ use Rattle.smp_model.specs.declared.upload.Mark.{Mark}
 use Rattle.smp_model.specs.Laws.{GoodUpload, GoodWhere}
 use Rattle.smp_model.specs.Sides.{MarkPending}
 use Rattle.smp_model.specs.Uploads.{uploaded_image}
-use Rattle.smp_progress.specs.State.{ProgressState, ProgressSays}
+use Rattle.smp_progress.specs.State.{ProgressState}
 use Rattle.smp_slot.specs.Marks.{MarkOrNone}
 use Rattle.smp_slot.specs.Slots.{last_page}
 use Rattle.smp_upload.specs.Bytes.{SideStandsAs, SideStands, SideShows, Accepts, Clean, pending_in, record_of}
 use Rattle.smp_upload.specs.Counting.{Pays, AimsAtSlot}
-use Rattle.smp_upload.specs.Moves.{Moves, Does, KeepsPending, Moved, Done, one_step}
+use Rattle.smp_upload.specs.Moves.{Moves, Does, Moved, Done, one_step}
 use Rattle.smp_upload.specs.States.{Known, Says, Announced}
 use Rattle.smp_upload.proofs.Apartness.{active_by, confirmed_by, ages_clear}
 use Rattle.smp_upload.proofs.Composing.{part_none, part_whole}
@@ -33,7 +33,7 @@ use Rattle.smp_upload.proofs.Frames.{record_kept, progress_kept, ProgressLasts}
 use Rattle.smp_upload.proofs.Resolved.{known_full}
 use Rattle.smp_upload.proofs.Sides.{OneSide, says_shows, says_knows}
 use Rattle.smp_upload.proofs.Stored.{Found, found, told_pending}
-use Rattle.smp_upload.proofs.Tellings.{told_three, new_three, if_both}
+use Rattle.smp_upload.proofs.Tellings.{told_three, new_three}
 
 -- what the crate below promises of a good upload
 abbrev pub GoodImages : Type 0
@@ -106,24 +106,26 @@ full one goods layout p a image side bytes some says st =
 
 mark_moves : OneSide → GoodImages → (layout : Layout) (p : ProgressState) (a : Announcement) (image : Option ImageInfo) (mark : Mark) (old new : List ℕ) → a.length + (geometry_of layout).page ≤ slot_size (geometry_of layout) → IsSome image
     → Says (known_full layout p a image) old → Keeps (end_spots layout) old new → MarkOrNone (slot_of layout 1) mark new → Moves layout (one_step (MarkPending mark)) old new
-mark_moves one goods layout p a image mark old new most some says k either = record { moves = λ side st.
-    let f = full one goods layout p a image side old some says st in
-    let x : Announced = record { announcement = a; offset = a.length } in
-    elim either [
-      | inl none ↦ record {
-        reached = side;
-        part = part_none side (MarkPending mark ∷ []);
-        stands = record {
-          rescue = false;
-          stands = subst (λ (m : Option Mark). SideStandsAs layout false (record side { pending = m }) new) (sym f.free) (as_marked layout side x None old new most f.found k none tt f.shows.stands);
-        };
-      }
-      | inr this ↦ record {
-        reached = record side { pending = Some mark };
-        part = part_whole side (MarkPending mark ∷ []);
-        stands = record { rescue = false; stands = as_marked layout side x (Some mark) old new most f.found k this f.good f.shows.stands };
-      }
-    ] }
+mark_moves one goods layout p a image mark old new most some says k either = record {
+  moves = λ side st.
+      let f = full one goods layout p a image side old some says st in
+      let x : Announced = record { announcement = a; offset = a.length } in
+      elim either [
+        | inl none ↦ record {
+          reached = side;
+          part = part_none side (MarkPending mark ∷ []);
+          stands = record {
+            rescue = false;
+            stands = subst (λ (m : Option Mark). SideStandsAs layout false (record side { pending = m }) new) (sym f.free) (as_marked layout side x None old new most f.found k none tt f.shows.stands);
+          };
+        }
+        | inr this ↦ record {
+          reached = record side { pending = Some mark };
+          part = part_whole side (MarkPending mark ∷ []);
+          stands = record { rescue = false; stands = as_marked layout side x (Some mark) old new most f.found k this f.good f.shows.stands };
+        }
+      ];
+}
 
 -- nothing follows the bytes of a complete upload
 full_clean : (layout : Layout) (up : Option Upload) (a : Announcement) (bytes : List ℕ) → Found up (record { announcement = a; offset = a.length }) → Clean layout up bytes

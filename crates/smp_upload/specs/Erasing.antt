@@ -1,9 +1,9 @@
 -- What an erase needs, what it costs, and what its steps leave.
-use Rattle.std.specs.Prelude.{◌≡◌, ◌+◌, ℕ, Bool, true, false, List, Option, None, is_some}
+use Rattle.std.specs.Prelude.{◌≡◌, ◌+◌, ℕ, Bool, true, false, List, None, is_some}
 use Rattle.smp_flash.specs.declared.layout.Layout.{Layout}
 use Rattle.smp_progress.specs.State.{ProgressState}
 use Rattle.smp_upload.specs.Free.{Free}
-use Rattle.smp_upload.specs.States.{Known, Says}
+use Rattle.smp_upload.specs.States.{Known}
 
 -- Nothing is pending, and this is whether an upload is there.
 pub record FreeWith (layout : Layout) (entry : ProgressState) (there : Bool) (bytes : List ℕ) : Type 0 where

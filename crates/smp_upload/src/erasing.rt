@@ -167,7 +167,9 @@ impl Idle {
         ensures spends { OnOk result (0 < erase_records (known_idle self).upload → AimsAtRecord self.layout (F.state flash.old).aim → Smaller (F.state flash.old).patience (F.state flash.new).patience) }
     {
         let Idle {
-            layout, progress, ..
+            layout,
+            progress,
+            ..
         } = self;
         erase_all(layout, progress, flash, false)
     }
@@ -198,7 +200,9 @@ impl Receiving {
         ensures spends { OnOk result (0 < erase_records (known_receiving self).upload → AimsAtRecord self.layout (F.state flash.old).aim → Smaller (F.state flash.old).patience (F.state flash.new).patience) }
     {
         let Receiving {
-            layout, progress, ..
+            layout,
+            progress,
+            ..
         } = self;
         erase_all(layout, progress, flash, true)
     }
@@ -229,7 +233,9 @@ impl Whole {
         ensures spends { OnOk result (0 < erase_records (known_whole self).upload → AimsAtRecord self.layout (F.state flash.old).aim → Smaller (F.state flash.old).patience (F.state flash.new).patience) }
     {
         let Whole {
-            layout, progress, ..
+            layout,
+            progress,
+            ..
         } = self;
         erase_all(layout, progress, flash, true)
     }

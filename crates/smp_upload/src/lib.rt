@@ -17,4 +17,4 @@ mod storing;
 
 pub use laws::{sides_are_told_apart, sides_outlast_other_changes};
 pub use primary::{active_image, confirm, is_confirmed};
-pub use states::{Chunked, Idle, Lost, Mounted, Pending, Receiving, UploadFault, Unmounted, Whole};
+pub use states::{Chunked, Idle, Lost, Mounted, Pending, Receiving, Unmounted, UploadFault, Whole};

@@ -16,7 +16,9 @@ ghost use Rattle.smp_upload.specs.Primary.{Confirms, SaysOn};
 
 use crate::laws::sides_are_told_apart;
 use crate::reading::image_at;
-use smp_flash::{CallFault, Flash, Layout, Operation, regions_count_what_begins_there, regions_lie_apart};
+use smp_flash::{
+    CallFault, Flash, Layout, Operation, regions_count_what_begins_there, regions_lie_apart,
+};
 use smp_model::{ImageFault, ImageInfo, Version, good_images_are_right};
 use smp_progress::progress_outlasts_other_changes;
 use smp_slot::{confirm as write_flag, confirmed, slots_fit};

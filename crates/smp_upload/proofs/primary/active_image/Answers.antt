@@ -1,8 +1,6 @@
-use Rattle.std.proofs.Common.{◌≡◌, ◌+◌, ◌-◌, ◌≤◌, ℕ, List, sym, subst, arith}
-use Rattle.smp_flash.specs.Calls.{Calls}
+use Rattle.std.proofs.Common.{◌≡◌, ◌-◌, arith}
 use Rattle.smp_flash.specs.Geometry.{slot_size}
-use Rattle.smp_flash.specs.Layout.{geometry_of, slot_of, area_spot}
-use Rattle.smp_flash.specs.State.{End}
+use Rattle.smp_flash.specs.Layout.{geometry_of}
 use Rattle.smp_upload.proofs.Running.{primary_Calls, image_told}
 use Rattle.smp_upload.proofs.primary.active_image.Goals as goal
 
