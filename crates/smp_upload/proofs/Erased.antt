@@ -23,13 +23,17 @@ use Rattle.smp_upload.specs.Counting.{Pays}
 use Rattle.smp_upload.specs.Erasing.{FreeWith, known_gone, records_if, reads_if, writes_if, erases_if}
 use Rattle.smp_upload.specs.Moves.{Moves, Does, KeepsPending, Moved, Done, no_steps, one_step}
 use Rattle.smp_upload.specs.States.{Known, Says, Announced, announced}
+use Rattle.smp_upload.specs.Storing.{known_at}
+use Rattle.smp_tlv.specs.declared.carried.Carried.{Carried}
+use Rattle.smp_model.specs.declared.image.ImageInfo.{ImageInfo}
+use Rattle.smp_model.specs.declared.upload.Announcement.{Announcement}
 use Rattle.smp_upload.proofs.Apartness.{active_by, confirmed_by, ages_clear}
 use Rattle.smp_upload.proofs.Begun.{free_pending}
 use Rattle.smp_upload.proofs.Composing.{Done-Done, Done-Moved, part_none, part_whole}
 use Rattle.smp_upload.proofs.Fading.{free_fades}
 use Rattle.smp_upload.proofs.Frames.{record_kept, progress_kept, ProgressLasts}
 use Rattle.smp_upload.proofs.Putting.{put_reached, told_pending_sides, sides_Calls, sides_clear, good_free}
-use Rattle.smp_upload.proofs.Resolved.{none_shows, same_ages, same_pending}
+use Rattle.smp_upload.proofs.Resolved.{known_full, none_shows, same_ages, same_pending}
 use Rattle.smp_upload.proofs.Sides.{OneSide, says_shows, says_knows}
 use Rattle.smp_upload.proofs.Stored.{told_pending}
 use Rattle.smp_upload.proofs.Tellings.{told_three, new_three, if_both, same_if, some_told}
@@ -290,8 +294,18 @@ erase_erases layout there (Some u) None p q r k f h = absurd k
 erase_erases layout there (Some u) (Some v) p q r k f h = subst (λ (n : ℕ). ChangesAtMost (writes_if there) (erases_if there n) p r) (slot_same layout u v k) (erase_changes there (slot_dirty layout v) p q r f h)
 
 -- a state without an upload, or with one
-pub free_none : (known : Known) (x : Option (List ℕ)) → known.pending ≡ None → known.upload ≡ None → IfSome x (Says known) → IfSome x (FreeWith known.layout known.entry false)
+free_none : (known : Known) (x : Option (List ℕ)) → known.pending ≡ None → known.upload ≡ None → IfSome x (Says known) → IfSome x (FreeWith known.layout known.entry false)
 free_none known x e none says = IfSome-map (Says known) (FreeWith known.layout known.entry false) x (λ u s. record { free = record { known = known; says = s; layout_is = refl; entry_is = refl; free = e }; there_is = ap is_some none }) says
 
-pub free_some : (known : Known) (a : Announced) (x : Option (List ℕ)) → known.pending ≡ None → known.upload ≡ Some a → IfSome x (Says known) → IfSome x (FreeWith known.layout known.entry true)
+free_some : (known : Known) (a : Announced) (x : Option (List ℕ)) → known.pending ≡ None → known.upload ≡ Some a → IfSome x (Says known) → IfSome x (FreeWith known.layout known.entry true)
 free_some known a x e some says = IfSome-map (Says known) (FreeWith known.layout known.entry true) x (λ u s. record { free = record { known = known; says = s; layout_is = refl; entry_is = refl; free = e }; there_is = ap is_some some }) says
+
+-- the same by what each state knows
+pub gone_free : (layout : Layout) (p : ProgressState) (x : Option (List ℕ)) → IfSome x (Says (known_gone layout p)) → IfSome x (FreeWith layout p false)
+gone_free layout p x says = free_none (known_gone layout p) x refl refl says
+
+pub at_free : (layout : Layout) (p : ProgressState) (a : Announcement) (offset : ℕ) (sums : Carried) (x : Option (List ℕ)) → IfSome x (Says (known_at layout p a offset sums)) → IfSome x (FreeWith layout p true)
+at_free layout p a offset sums x says = free_some (known_at layout p a offset sums) (record { announcement = a; offset = offset }) x refl refl says
+
+pub full_given : (layout : Layout) (p : ProgressState) (a : Announcement) (image : Option ImageInfo) (x : Option (List ℕ)) → IfSome x (Says (known_full layout p a image)) → IfSome x (FreeWith layout p true)
+full_given layout p a image x says = free_some (known_full layout p a image) (record { announcement = a; offset = a.length }) x refl refl says

@@ -146,6 +146,7 @@ impl Idle {
     /// Erases the secondary slot, page by page, where it is not all FF.
     ///
     /// It needs no record.
+    #[tactic(auto, using(crate::proofs::Erased::gone_free))]
     pub fn erase<F: Flash>(self, flash: &mut F) -> Result<Idle, Lost>
         requires layout { geometry_of self.layout ≡ (F.state flash.old).geometry }
         requires says { IfSome (F.state flash.old).bytes (Says (known_idle self)) }
@@ -179,6 +180,7 @@ impl Receiving {
     /// Gives up the upload, and then erases the secondary slot, page by page, where it is not all FF.
     ///
     /// It needs one record, and that is put first: while a byte of the slot changes, no upload is there any more.
+    #[tactic(auto, using(crate::proofs::Erased::at_free))]
     pub fn erase<F: Flash>(self, flash: &mut F) -> Result<Idle, Lost>
         requires layout { geometry_of self.layout ≡ (F.state flash.old).geometry }
         requires says { IfSome (F.state flash.old).bytes (Says (known_receiving self)) }
@@ -212,6 +214,7 @@ impl Whole {
     /// Gives up the upload, and then erases the secondary slot, page by page, where it is not all FF.
     ///
     /// It needs one record, and that is put first: while a byte of the slot changes, no upload is there any more.
+    #[tactic(auto, using(crate::proofs::Erased::full_given))]
     pub fn erase<F: Flash>(self, flash: &mut F) -> Result<Idle, Lost>
         requires layout { geometry_of self.layout ≡ (F.state flash.old).geometry }
         requires says { IfSome (F.state flash.old).bytes (Says (known_whole self)) }

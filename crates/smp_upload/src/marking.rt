@@ -67,6 +67,7 @@ impl Whole {
         ensures formatted { IfErr result (λ lost. lost.fault ≡ UploadFault.Unformatted → ⊥) }
         ensures worn { IfErr result (λ lost. lost.fault ≡ UploadFault.Worn → ⊥) }
         ensures says { IfOk result (λ pending. IfSome (F.state flash.new).bytes (Says (known_pending pending))) }
+        ensures spends { OnOk result (AimsAtSlot self.layout 1 (F.state flash.old).aim → Smaller (F.state flash.old).patience (F.state flash.new).patience) }
         ensures pending { IfOk result (λ pending. (pending.layout ≡ self.layout) × (pending.announcement ≡ self.announcement) × (Some pending.image ≡ self.image) × (pending.mark ≡ mark)) }
     {
         sides_are_told_apart();

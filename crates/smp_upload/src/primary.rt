@@ -115,6 +115,7 @@ pub fn confirm<F: Flash>(layout: &Layout, flash: &mut F) -> Result<(), CallFault
     ensures whole { OnOk result (IfSome (F.state flash.new).bytes (λ held. area (last_page (slot_of layout.now 0) (geometry_of layout.now)) (geometry_of layout.now).page held ≡ confirmed_page (geometry_of layout.now).page)) }
     ensures does { OnOk result (Told (Confirms layout.now) (F.state flash.old).bytes (F.state flash.new).bytes) }
     ensures pays { OnOk result (Pays layout.now (one_step Confirm) (F.state flash.old) (F.state flash.new)) }
+    ensures spends { OnOk result (AimsAtSlot layout.now 0 (F.state flash.old).aim → Smaller (F.state flash.old).patience (F.state flash.new).patience) }
     ensures says { Told (SaysOn layout.now) (F.state flash.old).bytes (F.state flash.new).bytes }
 {
     sides_are_told_apart();
