@@ -45,7 +45,7 @@ incomplete_by u a o e n lt =
     let m : u.announcement.length ≡ a.length = ap (λ (b : Announcement). b.length) e in
     differs_below (length u.accepted) u.announcement.length (omega arith)
 
-partial_spoils : OneSide → (layout : Layout) (p : ProgressState) (a : Announcement) (o : ℕ) (sums : Carried) (bytes : List ℕ) → o < a.length → Filled layout p a o sums bytes → Spoils layout false bytes
+pub partial_spoils : OneSide → (layout : Layout) (p : ProgressState) (a : Announcement) (o : ℕ) (sums : Carried) (bytes : List ℕ) → o < a.length → Filled layout p a o sums bytes → Spoils layout false bytes
 partial_spoils one layout p a o sums bytes lt f side st =
     let up = filled_upload one layout p a o sums side bytes f st in
     ap is_spoiled up.is ∙ ap (λ (b : Bool). b && differs up.u.announcement.digest up.u.accepted) (incomplete_by up.u a o up.announcement up.offset lt)
@@ -53,7 +53,7 @@ partial_spoils one layout p a o sums bytes lt f side st =
 pub told_partial : OneSide → (layout : Layout) (p : ProgressState) (a : Announcement) (o : ℕ) (sums : Carried) (x : Option (List ℕ)) → o < a.length → IfSome x (Filled layout p a o sums) → IfSome x (Spoils layout false)
 told_partial one layout p a o sums x lt f = IfSome-map (Filled layout p a o sums) (Spoils layout false) x (λ u ff. partial_spoils one layout p a o sums u lt ff) f
 
-partial_says : OneSide → (layout : Layout) (p : ProgressState) (a : Announcement) (o : ℕ) (sums : Carried) (bytes : List ℕ) → p.layout ≡ layout → o < a.length → Filled layout p a o sums bytes → Storing layout p a o sums bytes
+pub partial_says : OneSide → (layout : Layout) (p : ProgressState) (a : Announcement) (o : ℕ) (sums : Carried) (bytes : List ℕ) → p.layout ≡ layout → o < a.length → Filled layout p a o sums bytes → Storing layout p a o sums bytes
 partial_says one layout p a o sums bytes place lt f =
     let st : SideStands layout f.side bytes = record { rescue = false; stands = f.stands.stands } in
     let up = found f.side.upload (record { announcement = a; offset = o }) f.upload in

@@ -135,7 +135,7 @@ complete_by u a e n =
     equal_is : (m n : ℕ) → m ≡ n → (m == n) ≡ true
     equal_is m n e = grind (arith, nat_tests)
 
-image_when : (u : Upload) → is_complete u ≡ true → is_spoiled (Some u) ≡ false → uploaded_image (Some u) ≡ good_image u.accepted
+pub image_when : (u : Upload) → is_complete u ≡ true → is_spoiled (Some u) ≡ false → uploaded_image (Some u) ≡ good_image u.accepted
 image_when u done right = by_tests (is_complete u) (differs u.announcement.digest u.accepted) (good_image u.accepted) done right
   where
     by_tests : (c d : Bool) (image : Option ImageInfo) → c ≡ true → (c && d) ≡ false → (if c && not d then image else None) ≡ image
@@ -275,7 +275,7 @@ done_after layout spots n steps p q r calls same m = record {
 }
 
 -- what the digest tells
-misses_is : (digest : Option (List ℕ)) (bytes : List ℕ) → differs digest bytes ≡ misses digest (sha256 bytes)
+pub misses_is : (digest : Option (List ℕ)) (bytes : List ℕ) → differs digest bytes ≡ misses digest (sha256 bytes)
 misses_is None bytes = refl
 misses_is (Some d) bytes = refl
 

@@ -2,6 +2,7 @@ pub mod Bytes
 pub mod Counting
 pub mod Erasing
 pub mod Faults
+pub mod Mounting
 pub mod Moves
 pub mod Needs
 pub mod Primary
@@ -10,3 +11,4 @@ pub mod States
 pub mod Free
 pub mod Storing
 pub mod Rescuing
+pub mod Summing

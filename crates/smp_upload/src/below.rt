@@ -1,5 +1,5 @@
 // Calls below on the regions of an image, with their faults as a call on an upload's state passes them on.
-ghost use Rattle.std.specs.Prelude.{◌≡◌, ◌+◌, ◌*◌, ◌≤◌, ◌<◌, ◌%◌, ◌∷◌, [], true, IsTrue, OnOk, IfOk, IfErr, IfSome, length};
+ghost use Rattle.std.specs.Prelude.{◌≡◌, ◌↔◌, ◌+◌, ◌*◌, ◌≤◌, ◌<◌, ◌%◌, ◌∷◌, [], true, IsTrue, OnOk, IfOk, IfErr, IfSome, length};
 ghost use Rattle.smp_flash.specs.Area.{area, blank, spot, Keeps, Told};
 ghost use Rattle.smp_flash.specs.Calls.{Calls, Smaller, ReadsAtMost, ChangesAtMost};
 ghost use Rattle.smp_flash.specs.Geometry.{slot_size, tail};
@@ -20,7 +20,7 @@ use crate::faults::{from_bank, from_call, lost};
 use crate::states::{Lost, UploadFault};
 use smp_flash::{Flash, Layout, regions_count_what_begins_there};
 use smp_progress::{Progress, Record};
-use smp_slot::{from_scratch, put, slots_fit, to_scratch};
+use smp_slot::{from_scratch, put, slots_fit, tail_is_clean, to_scratch};
 
 /// Puts a record in place of the one that stands.
 pub fn put_record<F: Flash>(
@@ -118,6 +118,26 @@ pub fn move_from_scratch<F: Flash>(layout: Layout, flash: &mut F, offset: u32) -
 {
     match from_scratch(flash, &layout, layout.slot(1), offset) {
         Ok(()) => Ok(()),
+        Err(fault) => Err(lost(layout, from_call(fault))),
+    }
+}
+
+/// Whether the bytes of the secondary slot from an offset to its page's end are FF: true at a page's start.
+pub fn is_clean_behind<F: Flash>(layout: Layout, flash: &mut F, offset: u32) -> Result<bool, Lost>
+    requires layout { geometry_of layout ≡ (F.state flash.old).geometry }
+    requires inside { offset < slot_size (geometry_of layout) }
+    ensures calls { Calls (spot ((slot_of layout 1).at + offset) (tail (geometry_of layout).page offset)) (upload_end result) (F.state flash.old) (F.state flash.new) }
+    ensures kept { (F.state flash.new).bytes ≡ (F.state flash.old).bytes }
+    ensures reads { ReadsAtMost (tail (geometry_of layout).page offset) (F.state flash.old).bytes_read (F.state flash.new).bytes_read }
+    ensures clean { IfOk result (λ clean. IfSome (F.state flash.old).bytes (λ held. IsTrue clean ↔ (area ((slot_of layout 1).at + offset) (tail (geometry_of layout).page offset) held ≡ blank (tail (geometry_of layout).page offset)))) }
+    ensures begins { IfOk result (λ clean. offset % (geometry_of layout).page ≡ 0 → IsTrue clean) }
+    ensures lost { IfErr result (λ lost. lost.state.layout ≡ layout) }
+    ensures worn { IfErr result (λ lost. lost.fault ≡ UploadFault.Worn → ⊥) }
+    ensures formatted { IfErr result (λ lost. lost.fault ≡ UploadFault.Unformatted → ⊥) }
+{
+    slots_fit();
+    match tail_is_clean(flash, layout.slot(1), offset) {
+        Ok(clean) => Ok(clean),
         Err(fault) => Err(lost(layout, from_call(fault))),
     }
 }

@@ -1,5 +1,5 @@
 // A part of a flash, as bytes that an image is read from.
-ghost use Rattle.std.specs.Prelude.{◌≡◌, ◌+◌, ◌≤◌, ◌∷◌, [], length, IfOk, IfErr, IfSome};
+ghost use Rattle.std.specs.Prelude.{◌≡◌, ◌+◌, ◌≤◌, ◌∷◌, [], length, false, is_some, Some, None, IfOk, IfErr, IfSome};
 ghost use Rattle.std.proofs.Props.{props};
 ghost use Rattle.std.specs.Option.{option_map};
 ghost use Rattle.sha2.specs.Sha256.{sha256};
@@ -11,13 +11,16 @@ ghost use Rattle.smp_flash.specs.State.End.{Went};
 ghost use Rattle.smp_model.specs.Image.{good_image, image_of};
 ghost use Rattle.smp_tlv.specs.Carried.{Carries};
 ghost use Rattle.smp_tlv.specs.State.{image_end};
+ghost use Rattle.smp_upload.specs.Bytes.{active_in};
 ghost use Rattle.smp_upload.specs.Faults.{upload_end};
+ghost use Rattle.smp_upload.specs.Mounting.{of_image};
 ghost use Rattle.smp_upload.specs.Reading.{part_state};
 
 use crate::faults::{from_read, lost};
 use crate::states::{Lost, UploadFault};
-use smp_flash::{Flash, FlashFault, Layout, regions_lie_apart, told_bytes_have_the_size};
-use smp_tlv::{Bytes, Carried, Finished, ImageFault, ImageInfo, read_image};
+use smp_flash::{Flash, FlashFault, Layout, Operation, regions_lie_apart, told_bytes_have_the_size};
+use smp_model::{ImageFault, ImageInfo};
+use smp_tlv::{Bytes, Carried, Finished, check_hash, read_image};
 
 /// So many bytes of a flash from a place on.
 #[derive(Drop)]
@@ -135,5 +138,82 @@ pub fn image_at<F: Flash>(flash: &mut F, at: u32, size: u32) -> Result<ImageInfo
     match image_in(&mut front) {
         Ok(image) => Ok(image),
         Err(fault) => Err(fault),
+    }
+}
+
+/// The fault of reading an image that the flash has to answer for: none where the bytes are no image.
+fn from_image(fault: ImageFault) -> Option<UploadFault>
+    ensures { result ≡ of_image fault }
+{
+    match fault {
+        ImageFault::Fault => Some(UploadFault::Fault(Operation::Read)),
+        ImageFault::Off => Some(UploadFault::Off),
+        _ => None,
+    }
+}
+
+/// What a fault of reading an image says of the bytes: that they are no good image, or nothing, where the flash has to answer
+/// for it.
+fn not_good(layout: Layout, fault: ImageFault) -> Result<bool, Lost>
+    ensures bad { IfOk result (λ good. (good ≡ false) × (of_image fault ≡ None)) }
+    ensures lost { IfErr result (λ lost. (lost.state.layout ≡ layout) × (of_image fault ≡ Some lost.fault)) }
+{
+    match from_image(fault) {
+        None => Ok(false),
+        Some(fault) => Err(lost(layout, fault)),
+    }
+}
+
+/// Whether the bytes begin with a good image.
+fn is_good_in<F: Flash>(front: &mut Front<'_, F>, layout: Layout) -> Result<bool, Lost>
+    ensures same_reference { front.new.flash.ghost_name ≡ front.old.flash.ghost_name }
+    ensures calls { Calls (spot front.old.at front.old.size) (upload_end result) (F.state front.old.flash.now) (F.state front.new.flash.now) }
+    ensures kept { (F.state front.new.flash.now).bytes ≡ (F.state front.old.flash.now).bytes }
+    ensures good { IfOk result (λ good. IfSome (option_map (area front.old.at front.old.size) (F.state front.old.flash.now).bytes) (λ held. good ≡ is_some (good_image held))) }
+    ensures lost { IfErr result (λ lost. lost.state.layout ≡ layout) }
+    ensures worn { IfErr result (λ lost. lost.fault ≡ UploadFault.Worn → ⊥) }
+    ensures formatted { IfErr result (λ lost. lost.fault ≡ UploadFault.Unformatted → ⊥) }
+{
+    let info = match read_image(front) {
+        Ok(info) => info,
+        Err(fault) => return not_good(layout, fault),
+    };
+    match check_hash(front, &info) {
+        Ok(()) => Ok(true),
+        Err(fault) => not_good(layout, fault),
+    }
+}
+
+/// Whether a front of the primary slot begins with a good image.
+fn is_good_at<F: Flash>(front: &mut Front<'_, F>, layout: Layout) -> Result<bool, Lost>
+    requires place { front.old.at ≡ (slot_of layout 0).at }
+    requires fits { front.old.size ≤ slot_size (geometry_of layout) }
+    ensures same_reference { front.new.flash.ghost_name ≡ front.old.flash.ghost_name }
+    ensures calls { Calls (area_spot (slot_of layout 0) ∷ []) (upload_end result) (F.state front.old.flash.now) (F.state front.new.flash.now) }
+    ensures kept { (F.state front.new.flash.now).bytes ≡ (F.state front.old.flash.now).bytes }
+    ensures good { IfOk result (λ good. IfSome (option_map (area front.old.at front.old.size) (F.state front.old.flash.now).bytes) (λ held. good ≡ is_some (good_image held))) }
+    ensures lost { IfErr result (λ lost. lost.state.layout ≡ layout) }
+    ensures worn { IfErr result (λ lost. lost.fault ≡ UploadFault.Worn → ⊥) }
+    ensures formatted { IfErr result (λ lost. lost.fault ≡ UploadFault.Unformatted → ⊥) }
+{
+    is_good_in(front, layout)
+}
+
+/// Whether the primary slot begins with a good image, before its last page.
+pub fn is_good<F: Flash>(layout: Layout, flash: &mut F) -> Result<bool, Lost>
+    requires { geometry_of layout ≡ (F.state flash.old).geometry }
+    ensures calls { Calls (area_spot (slot_of layout 0) ∷ []) (upload_end result) (F.state flash.old) (F.state flash.new) }
+    ensures kept { (F.state flash.new).bytes ≡ (F.state flash.old).bytes }
+    ensures good { IfOk result (λ good. IfSome (F.state flash.old).bytes (λ held. good ≡ is_some (good_image (active_in layout held)))) }
+    ensures lost { IfErr result (λ lost. lost.state.layout ≡ layout) }
+    ensures worn { IfErr result (λ lost. lost.fault ≡ UploadFault.Worn → ⊥) }
+    ensures formatted { IfErr result (λ lost. lost.fault ≡ UploadFault.Unformatted → ⊥) }
+{
+    regions_lie_apart();
+    let slot = layout.slot(0);
+    let mut front = front_of(flash, slot.at, slot.length - layout.geometry().page);
+    match is_good_at(&mut front, layout) {
+        Ok(good) => Ok(good),
+        Err(lost) => Err(lost),
     }
 }
