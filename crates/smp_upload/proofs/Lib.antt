@@ -1,9 +1,14 @@
+pub mod Apartness
 pub mod Begun
 pub mod Composing
+pub mod Confirmed
 pub mod Costs
 pub mod Ends
+pub mod Erased
+pub mod Fading
 pub mod Frames
 pub mod Looks
+pub mod Marked
 pub mod Mounts
 pub mod Needed
 pub mod Parted
@@ -12,6 +17,7 @@ pub mod Putting
 pub mod Rescued
 pub mod Resolved
 pub mod Restored
+pub mod Running
 pub mod Sides
 pub mod Sights
 pub mod Stored

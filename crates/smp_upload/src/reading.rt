@@ -1,4 +1,4 @@
-// The front of a secondary slot, as bytes that an image is read from.
+// A part of a flash, as bytes that an image is read from.
 ghost use Rattle.std.specs.Prelude.{◌≡◌, ◌+◌, ◌≤◌, ◌∷◌, [], length, false, is_some, Some, None, IfOk, IfErr, IfSome};
 ghost use Rattle.std.proofs.Props.{props};
 ghost use Rattle.std.specs.Option.{option_map};
@@ -7,8 +7,10 @@ ghost use Rattle.smp_flash.specs.Area.{AreBytes, area, spot};
 ghost use Rattle.smp_flash.specs.Calls.{Calls, ReadsAtMost};
 ghost use Rattle.smp_flash.specs.Geometry.{size_of, slot_size};
 ghost use Rattle.smp_flash.specs.Layout.{geometry_of, slot_of, area_spot};
-ghost use Rattle.smp_model.specs.Image.{good_image};
+ghost use Rattle.smp_flash.specs.State.End.{Went};
+ghost use Rattle.smp_model.specs.Image.{good_image, image_of};
 ghost use Rattle.smp_tlv.specs.Carried.{Carries};
+ghost use Rattle.smp_tlv.specs.State.{image_end};
 ghost use Rattle.smp_upload.specs.Bytes.{active_in};
 ghost use Rattle.smp_upload.specs.Faults.{upload_end};
 ghost use Rattle.smp_upload.specs.Mounting.{of_image};
@@ -17,7 +19,7 @@ ghost use Rattle.smp_upload.specs.Reading.{part_state};
 use crate::faults::{from_read, lost};
 use crate::states::{Lost, UploadFault};
 use smp_flash::{Flash, FlashFault, Layout, Operation, regions_lie_apart, told_bytes_have_the_size};
-use smp_model::ImageFault;
+use smp_model::{ImageFault, ImageInfo};
 use smp_tlv::{Bytes, Carried, Finished, check_hash, read_image};
 
 /// So many bytes of a flash from a place on.
@@ -110,6 +112,32 @@ pub fn finish<F: Flash>(
     match finish_in(&mut front, layout, sums) {
         Ok(finished) => Ok(finished),
         Err(lost) => Err(lost),
+    }
+}
+
+/// The image that the bytes of a part begin with, or why they are none.
+fn image_in<F: Flash>(front: &mut Front<'_, F>) -> Result<ImageInfo, ImageFault>
+    ensures same_reference { front.new.flash.ghost_name ≡ front.old.flash.ghost_name }
+    ensures calls { Calls (spot front.old.at front.old.size) (image_end result) (F.state front.old.flash.now) (F.state front.new.flash.now) }
+    ensures kept { (F.state front.new.flash.now).bytes ≡ (F.state front.old.flash.now).bytes }
+    ensures reads { ReadsAtMost 131102 (F.state front.old.flash.now).bytes_read (F.state front.new.flash.now).bytes_read }
+    ensures image { image_end result ≡ Went → IfSome (option_map (area front.old.at front.old.size) (F.state front.old.flash.now).bytes) (λ held. result ≡ image_of held) }
+{
+    read_image(front)
+}
+
+/// The image that so many bytes of a flash from a place on begin with, or why they are none.
+pub fn image_at<F: Flash>(flash: &mut F, at: u32, size: u32) -> Result<ImageInfo, ImageFault>
+    requires { at + size ≤ size_of (F.state flash.old).geometry }
+    ensures calls { Calls (spot at size) (image_end result) (F.state flash.old) (F.state flash.new) }
+    ensures kept { (F.state flash.new).bytes ≡ (F.state flash.old).bytes }
+    ensures reads { ReadsAtMost 131102 (F.state flash.old).bytes_read (F.state flash.new).bytes_read }
+    ensures image { image_end result ≡ Went → IfSome (F.state flash.old).bytes (λ held. result ≡ image_of (area at size held)) }
+{
+    let mut front = front_of(flash, at, size);
+    match image_in(&mut front) {
+        Ok(image) => Ok(image),
+        Err(fault) => Err(fault),
     }
 }
 
