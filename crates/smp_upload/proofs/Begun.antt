@@ -1,5 +1,5 @@
 -- An upload is chosen.
-use Rattle.std.proofs.Common.{◌≡◌, ◌⊎◌, inl, inr, ℕ, ◌+◌, ◌%◌, ◌≤◌, Bool, true, false, Option, Some, None, List, [], ◌∷◌, refl, sym, ◌∙◌, ap, subst, arith, ◌&&◌, if◌then◌else◌}
+use Rattle.std.proofs.Common.{◌≡◌, inl, inr, ℕ, ◌+◌, ◌%◌, ◌≤◌, Bool, false, Option, Some, None, List, [], ◌∷◌, refl, sym, ◌∙◌, ap, subst, arith, ◌&&◌, if◌then◌else◌}
 use Rattle.std.specs.Prelude.{IfSome, ◌==◌, not}
 use Rattle.smp_flash.specs.Area.{area, blank, Keeps, Told}
 use Rattle.smp_flash.specs.Calls.{Calls, Smaller}
@@ -26,7 +26,7 @@ use Rattle.smp_tlv.specs.declared.carried.Carried.{Carried}
 use Rattle.smp_upload.specs.Bytes.{SideStandsAs, SideStands, SideShows, CleanFrom}
 use Rattle.smp_upload.specs.Counting.{Pays}
 use Rattle.smp_upload.specs.Free.{Free}
-use Rattle.smp_upload.specs.Moves.{Moves, Does, KeepsPending, Moved, Done, one_step}
+use Rattle.smp_upload.specs.Moves.{Moves, Does, Moved, Done, one_step}
 use Rattle.smp_upload.specs.States.{Known, Says}
 use Rattle.smp_upload.specs.Storing.{known_at}
 use Rattle.smp_upload.proofs.Composing.{part_whole}
@@ -42,8 +42,10 @@ free_pending one layout p side bytes f st =
 
 choose_moves : OneSide → (layout : Layout) (p : ProgressState) (a : Announcement) (old new : List ℕ) → Free layout p old → Keeps (sides (progress_of layout)) old new → OldOrThis layout (records.Upload a 0 false) old new
     → Moves layout (one_step (Choose a)) old new
-choose_moves one layout p a old new f k either = record { moves = λ side st.
-    put_reached layout side (Choose a ∷ []) false (Some (chosen a)) old new st k either refl (good_free side.pending (Some (chosen a)) (free_pending one layout p side old f st)) (part_whole side (Choose a ∷ [])) }
+choose_moves one layout p a old new f k either = record {
+  moves = λ side st.
+      put_reached layout side (Choose a ∷ []) false (Some (chosen a)) old new st k either refl (good_free side.pending (Some (chosen a)) (free_pending one layout p side old f st)) (part_whole side (Choose a ∷ []));
+}
 
 differs_zero : (n : ℕ) → 32 ≤ n → (0 == n) ≡ false
 differs_zero n le = grind (arith, nat_tests)

@@ -2,9 +2,9 @@
 use Rattle.std.proofs.Common.{◌≡◌, ◌⊎◌, inl, inr, ℕ, ◌+◌, ◌≤◌, false, Option, Some, None, List, [], ◌∷◌, ◌++◌, refl, sym, ◌∙◌, ap, subst, arith, append_assoc}
 use Rattle.std.proofs.lemmas.List.{append-nil}
 use Rattle.std.specs.Prelude.{IsSome, IsSomeAnd}
-use Rattle.smp_flash.specs.Area.{Told, area}
-use Rattle.smp_flash.specs.Calls.{Calls, Smaller, NoGreater, Goes}
-use Rattle.smp_flash.specs.Layout.{progress_of, slot_of}
+use Rattle.smp_flash.specs.Area.{Told}
+use Rattle.smp_flash.specs.Calls.{Goes}
+use Rattle.smp_flash.specs.Layout.{progress_of}
 use Rattle.smp_flash.specs.State.{FlashState, End}
 use Rattle.smp_flash.specs.State.End.{Went}
 use Rattle.smp_flash.specs.declared.layout.Layout.{Layout}
@@ -14,9 +14,9 @@ use Rattle.smp_flash.proofs.Telling.{Told-trans, Told-map}
 use Rattle.smp_gate.specs.Newest.{AgesAtMost}
 use Rattle.smp_model.specs.declared.device.Side.{Side}
 use Rattle.smp_model.specs.Sides.{SideStep, side_applied, side_apply, SidePart}
-use Rattle.smp_upload.specs.Bytes.{SideStands, SideShows, pending_in}
+use Rattle.smp_upload.specs.Bytes.{SideStands, SideShows}
 use Rattle.smp_upload.specs.Counting.{Pays, CountsSteps}
-use Rattle.smp_upload.specs.Moves.{Reached, Moves, Does, KeepsPending, Moved, Done, and_then}
+use Rattle.smp_upload.specs.Moves.{Moves, Does, KeepsPending, Moved, Done, and_then}
 
 pub shows_stands : (layout : Layout) (side : Side) (bytes : List ℕ) → SideShows layout side bytes → SideStands layout side bytes
 shows_stands layout side bytes s = record { rescue = false; stands = s.stands }
@@ -55,30 +55,38 @@ pub part_none : (side : Side) (s : List SideStep) → SidePart side s side
 part_none side s = record { front = []; rest = s; split = refl; reached = refl }
 
 moves_first : (layout : Layout) (s t : Side → List SideStep) (old new : List ℕ) → Moves layout s old new → Moves layout (and_then s t) old new
-moves_first layout s t old new m = record { moves = λ side stands. let r = m.moves side stands in record {
-  reached = r.reached;
-  part = part_more side r.reached (s side) (t (side_applied (s side) side)) r.part;
-  stands = r.stands;
-} }
+moves_first layout s t old new m = record {
+  moves = λ side stands. let r = m.moves side stands in record {
+    reached = r.reached;
+    part = part_more side r.reached (s side) (t (side_applied (s side) side)) r.part;
+    stands = r.stands;
+  };
+}
 
 moves_then : (layout : Layout) (s t : Side → List SideStep) (old middle new : List ℕ) → Does layout s old middle → Moves layout t middle new → Moves layout (and_then s t) old new
-moves_then layout s t old middle new f m = record { moves = λ side stands.
-    let e = side_applied (s side) side in
-    let r = m.moves e (shows_stands layout e middle (f.does side stands)) in
-    record { reached = r.reached; part = part_after side r.reached (s side) (t e) r.part; stands = r.stands } }
+moves_then layout s t old middle new f m = record {
+  moves = λ side stands.
+      let e = side_applied (s side) side in
+      let r = m.moves e (shows_stands layout e middle (f.does side stands)) in
+      record { reached = r.reached; part = part_after side r.reached (s side) (t e) r.part; stands = r.stands };
+}
 
 does_then : (layout : Layout) (s t : Side → List SideStep) (old middle new : List ℕ) → Does layout s old middle → Does layout t middle new → Does layout (and_then s t) old new
-does_then layout s t old middle new f h = record { does = λ side stands.
-    let e = side_applied (s side) side in
-    let r = h.does e (shows_stands layout e middle (f.does side stands)) in
-    subst (λ (x : Side). SideShows layout x new) (sym (applied-append (s side) (t e) side)) r }
+does_then layout s t old middle new f h = record {
+  does = λ side stands.
+      let e = side_applied (s side) side in
+      let r = h.does e (shows_stands layout e middle (f.does side stands)) in
+      subst (λ (x : Side). SideShows layout x new) (sym (applied-append (s side) (t e) side)) r;
+}
 
 pub does_moves : (layout : Layout) (s : Side → List SideStep) (old new : List ℕ) → Does layout s old new → Moves layout s old new
-does_moves layout s old new f = record { moves = λ side stands. record {
-  reached = side_applied (s side) side;
-  part = part_whole side (s side);
-  stands = shows_stands layout (side_applied (s side) side) new (f.does side stands);
-} }
+does_moves layout s old new f = record {
+  moves = λ side stands. record {
+    reached = side_applied (s side) side;
+    part = part_whole side (s side);
+    stands = shows_stands layout (side_applied (s side) side) new (f.does side stands);
+  };
+}
 
 pub keeps_trans : (layout : Layout) (old middle new : List ℕ) → KeepsPending layout old middle → KeepsPending layout middle new → KeepsPending layout old new
 keeps_trans layout old middle new f h = record {
@@ -102,15 +110,17 @@ both_told P R Q (Some u) None f is r = absurd r
 both_told P R Q (Some u) (Some v) f is r = f u v is r
 
 pays_then : (layout : Layout) (s t : Side → List SideStep) (a b c : FlashState) → Goes a b → Goes b c → Told (Does layout s) a.bytes b.bytes → Pays layout s a b → Pays layout t b c → Pays layout (and_then s t) a c
-pays_then layout s t a b c f h does p q = record { pays = λ side stands is.
-    elim (counts-append layout a.aim (s side) (t (side_applied (s side) side)) side is) [
-      | inl first ↦ Smaller-then a.patience b.patience c.patience (p.pays side stands first) h.patience
-      | inr second ↦ then_Smaller a.patience b.patience c.patience f.patience
-          (q.pays (side_applied (s side) side)
-          (both_told (SideStands layout side) (Does layout s) (SideStands layout (side_applied (s side) side)) a.bytes b.bytes
-          (λ u v st e. shows_stands layout (side_applied (s side) side) v (e.does side st)) stands does)
-          (subst (λ (r : Option Region). CountsSteps layout r (side_applied (s side) side) (t (side_applied (s side) side))) (sym f.aim) second))
-    ] }
+pays_then layout s t a b c f h does p q = record {
+  pays = λ side stands is.
+      elim (counts-append layout a.aim (s side) (t (side_applied (s side) side)) side is) [
+        | inl first ↦ Smaller-then a.patience b.patience c.patience (p.pays side stands first) h.patience
+        | inr second ↦ then_Smaller a.patience b.patience c.patience f.patience
+            (q.pays (side_applied (s side) side)
+            (both_told (SideStands layout side) (Does layout s) (SideStands layout (side_applied (s side) side)) a.bytes b.bytes
+            (λ u v st e. shows_stands layout (side_applied (s side) side) v (e.does side st)) stands does)
+            (subst (λ (r : Option Region). CountsSteps layout r (side_applied (s side) side) (t (side_applied (s side) side))) (sym f.aim) second))
+      ];
+}
 
 -- the first call ended the whole
 pub Moved-first : (layout : Layout) (spots : List (ℕ × ℕ)) (m n : ℕ) (s t : Side → List SideStep) (end : End) (a b : FlashState)

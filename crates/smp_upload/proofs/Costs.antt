@@ -1,5 +1,5 @@
 -- What it costs to store a part.
-use Rattle.std.proofs.Common.{◌≡◌, ℕ, ◌+◌, ◌-◌, ◌*◌, ◌/◌, ◌%◌, ◌≤◌, Option, arith}
+use Rattle.std.proofs.Common.{ℕ, ◌+◌, ◌*◌, ◌≤◌, Option, arith}
 use Rattle.smp_flash.specs.Calls.{ReadsAtMost}
 use Rattle.smp_flash.specs.Geometry.{IsPage, Regular}
 use Rattle.smp_flash.specs.Layout.{geometry_of}

@@ -1,6 +1,6 @@
 -- How a call below ended, as a call on an upload's state passes it on.
 use Rattle.std.proofs.Common.{◌≡◌, ℕ, List, refl, sym, ◌∙◌, ap, subst}
-use Rattle.std.specs.Prelude.{Result, Ok, Err}
+use Rattle.std.specs.Prelude.{Err}
 use Rattle.smp_flash.specs.Calls.{Calls}
 use Rattle.smp_flash.specs.State.{FlashState, End, end_of, fault_end}
 use Rattle.smp_flash.specs.declared.flash.CallFault.{CallFault}

@@ -1,5 +1,5 @@
 -- Changes that keep clear of a side keep what the bytes stand for.
-use Rattle.std.proofs.Common.{◌≡◌, ◌⊎◌, inl, inr, ℕ, ◌+◌, ◌-◌, ◌*◌, ◌%◌, ◌<◌, ◌≤◌, Bool, true, false, Option, Some, None, List, [], ◌∷◌, ◌++◌, length, refl, sym, ◌∙◌, ap, subst, arith}
+use Rattle.std.proofs.Common.{◌≡◌, inl, inr, ℕ, ◌+◌, ◌-◌, ◌*◌, ◌%◌, ◌<◌, ◌≤◌, Bool, true, false, Option, Some, None, List, [], ◌∷◌, ◌++◌, length, sym, ◌∙◌, ap, subst, arith}
 use Rattle.std.specs.Str.{bytes_eq}
 use Rattle.smp_flash.specs.Area.{area, Clear, Keeps}
 use Rattle.smp_flash.specs.Geometry.{slot_size, tail, Regular, IsPage}
@@ -8,19 +8,18 @@ use Rattle.smp_flash.specs.declared.layout.BankPlace.{BankPlace}
 use Rattle.smp_flash.specs.declared.layout.Layout.{Layout}
 use Rattle.smp_flash.proofs.Places.{page_small, tail_last}
 use Rattle.smp_flash.proofs.Sizes.{regular, each_page}
-use Rattle.smp_gate.specs.Newest.{content_of, content_in, newest_side, newest, newer, newest_bytes}
+use Rattle.smp_gate.specs.Newest.{content_of, content_in, newest_side, newest, newer}
 use Rattle.smp_gate.specs.Side.{valid_side}
 use Rattle.smp_model.specs.declared.device.Side.{Side}
 use Rattle.smp_model.specs.declared.device.Upload.{Upload}
-use Rattle.smp_model.specs.declared.upload.Announcement.{Announcement}
 use Rattle.smp_progress.specs.Cells.{HasRecord, After, cell_length}
-use Rattle.smp_progress.specs.Record.{IsRecord, IsUpload}
+use Rattle.smp_progress.specs.Record.{IsRecord}
 use Rattle.smp_progress.specs.State.{ProgressState, ProgressSays}
 use Rattle.smp_progress.specs.declared.record.Record.{Record}
 use Rattle.smp_progress.specs.declared.record.Record.TheVariants as records
 use Rattle.smp_flash.specs.declared.geometry.Geometry.{Geometry}
 use Rattle.smp_slot.specs.Marks.{is_flagged, is_marked, mark_by, trailer_magic}
-use Rattle.smp_upload.specs.Bytes.{Apart, SideStandsAs, SideStands, SideShows, Accepts, Clean, accepted_in, active_in, confirmed_in, pending_in, record_of}
+use Rattle.smp_upload.specs.Bytes.{Apart, SideStandsAs, SideStands, Accepts, Clean, accepted_in, active_in, confirmed_in, pending_in, record_of}
 use Rattle.smp_upload.specs.States.{Known, Says}
 
 -- what the crate below promises of a record's value

@@ -1,15 +1,15 @@
 -- What a look at the flash finds.
-use Rattle.std.proofs.Common.{◌≡◌, ℕ, ◌+◌, ◌-◌, ◌≤◌, Bool, true, false, Option, Some, None, List, [], ◌∷◌, refl, sym, ◌∙◌, ap, subst, arith}
-use Rattle.std.specs.Prelude.{IfSome, IsSome, is_some, Result, Ok, Err}
+use Rattle.std.proofs.Common.{◌≡◌, ℕ, ◌+◌, ◌-◌, ◌≤◌, Bool, false, Option, Some, None, List, [], ◌∷◌, refl, sym, ◌∙◌, ap, arith}
+use Rattle.std.specs.Prelude.{IfSome, is_some, Err}
 use Rattle.smp_flash.specs.Area.{spot}
 use Rattle.smp_flash.specs.Calls.{Calls}
-use Rattle.smp_flash.specs.Geometry.{slot_size, Regular}
+use Rattle.smp_flash.specs.Geometry.{slot_size}
 use Rattle.smp_flash.specs.Layout.{geometry_of, slot_of, area_spot, upload_spots, progress_of}
 use Rattle.smp_flash.specs.Region.{Spares}
 use Rattle.smp_flash.specs.State.{FlashState, End}
 use Rattle.smp_flash.specs.State.End.{Went}
 use Rattle.smp_flash.specs.declared.layout.Layout.{Layout}
-use Rattle.smp_flash.proofs.Passing.{Calls-wider, Calls-after, Covers, Covers-within, Covers-trans}
+use Rattle.smp_flash.proofs.Passing.{Calls-wider, Covers, Covers-within}
 use Rattle.smp_flash.proofs.Telling.{IfSome-map}
 use Rattle.smp_gate.specs.Newest.{sides}
 use Rattle.smp_model.specs.declared.image.ImageFault.{ImageFault}
@@ -19,7 +19,7 @@ use Rattle.smp_model.specs.Image.{good_image, image_of, if_hashed}
 use Rattle.smp_progress.specs.Cells.{HasRecord}
 use Rattle.smp_progress.specs.declared.record.Record.{Record}
 use Rattle.smp_tlv.specs.State.{image_end}
-use Rattle.smp_upload.specs.Bytes.{SideReadable, active_in, record_of}
+use Rattle.smp_upload.specs.Bytes.{SideReadable, record_of}
 use Rattle.smp_upload.specs.Mounting.{of_image}
 use Rattle.smp_upload.specs.Moves.{mount_spots}
 use Rattle.smp_upload.proofs.Frames.{slot_large}

@@ -1,25 +1,24 @@
 -- What a mount does, by how it ended.
-use Rattle.std.proofs.Common.{◌≡◌, ℕ, ◌+◌, ◌<◌, ◌≤◌, Bool, true, false, Option, Some, None, List, [], ◌∷◌, refl, sym, ◌∙◌, ap, subst, arith}
-use Rattle.std.specs.Prelude.{IfSome, IsSomeAnd, IsTrue, Result, Ok, Err}
+use Rattle.std.proofs.Common.{◌≡◌, ℕ, ◌<◌, ◌≤◌, Bool, true, false, Option, List, refl, sym, ◌∙◌, ap, subst, arith}
+use Rattle.std.specs.Prelude.{IfSome, IsTrue, Result, Ok, Err}
 use Rattle.smp_flash.specs.Area.{Told}
 use Rattle.smp_flash.specs.Calls.{Calls, Smaller}
 use Rattle.smp_flash.specs.Layout.{progress_of, upload_spots}
 use Rattle.smp_flash.specs.State.{FlashState, End}
 use Rattle.smp_flash.specs.State.End.{Went}
 use Rattle.smp_flash.specs.declared.layout.Layout.{Layout}
-use Rattle.smp_flash.specs.declared.region.Region.{Region}
-use Rattle.smp_flash.proofs.Passing.{Calls-after, then_Smaller}
+use Rattle.smp_flash.proofs.Passing.{then_Smaller}
 use Rattle.smp_flash.proofs.Telling.{Told-with, Told-map, Told-same, Told-from, IfSome-map}
 use Rattle.smp_gate.specs.Newest.{newest_generation, AgesAtMost}
 use Rattle.smp_model.specs.declared.device.Side.{Side}
-use Rattle.smp_model.specs.Sides.{SideStep, side_applied, side_settle_steps}
+use Rattle.smp_model.specs.Sides.{side_applied, side_settle_steps}
 use Rattle.smp_model.specs.Uploads.{is_spoiled}
 use Rattle.smp_progress.specs.State.{ProgressState, ProgressSays, CanTake, AimsAtRecord}
 use Rattle.smp_upload.specs.Bytes.{SideStands, SideShows, SideReadable}
 use Rattle.smp_upload.specs.Counting.{Pays}
 use Rattle.smp_upload.specs.Faults.{IsIdle, upload_fault_end}
 use Rattle.smp_upload.specs.Mounting.{IsWorn, Mounts}
-use Rattle.smp_upload.specs.Moves.{Moves, Does, KeepsPending, Moved, Done, mount_spots}
+use Rattle.smp_upload.specs.Moves.{Does, KeepsPending, Moved, Done, mount_spots}
 use Rattle.smp_upload.specs.Needs.{MountNeeds}
 use Rattle.smp_upload.specs.Rescuing.{NeedsJust}
 use Rattle.smp_upload.specs.States.{Says, known_mounted}
@@ -31,7 +30,7 @@ use Rattle.smp_upload.proofs.Composing.{shows_stands, ages_more, Done-is}
 use Rattle.smp_upload.proofs.Looks.{upload_Calls}
 use Rattle.smp_upload.proofs.Resolved.{due, none_due, same_ages, same_pending, read_moved, moved_after, done_after}
 use Rattle.smp_upload.proofs.Sides.{OneSide}
-use Rattle.smp_upload.proofs.Tellings.{if_both, same_if, all_told, some_told}
+use Rattle.smp_upload.proofs.Tellings.{same_if, some_told}
 use Rattle.smp_upload.proofs.Young.{SaysGeneration, takes_none, generation_is}
 
 -- What is known of bytes before a mount changes them: they stand for a side, and it needs so many records.
@@ -179,10 +178,12 @@ pub record Shown (layout : Layout) (p : ProgressState) (mounted : Mounted) (byte
   pub place : p.layout ≡ layout
 
 shown_does : OneSide → (layout : Layout) (p : ProgressState) (mounted : Mounted) (bytes : List ℕ) → Shown layout p mounted bytes → Does layout side_settle_steps bytes bytes
-shown_does one layout p mounted bytes s = record { does = λ side st.
-    let e : s.side ≡ side = one layout s.side side bytes (shows_stands layout s.side bytes s.shows) st in
-    let shows : SideShows layout side bytes = subst (λ (x : Side). SideShows layout x bytes) e s.shows in
-    subst (λ (b : Bool). SideShows layout (side_applied (due b) side) bytes) (sym shows.settled) shows }
+shown_does one layout p mounted bytes s = record {
+  does = λ side st.
+      let e : s.side ≡ side = one layout s.side side bytes (shows_stands layout s.side bytes s.shows) st in
+      let shows : SideShows layout side bytes = subst (λ (x : Side). SideShows layout x bytes) e s.shows in
+      subst (λ (b : Bool). SideShows layout (side_applied (due b) side) bytes) (sym shows.settled) shows;
+}
 
 shown_ready : SaysGeneration → (layout : Layout) (p : ProgressState) (mounted : Mounted) (bytes : List ℕ) → Shown layout p mounted bytes → Ready layout p 0 bytes
 shown_ready law layout p mounted bytes s = record {
@@ -192,10 +193,12 @@ shown_ready law layout p mounted bytes s = record {
 }
 
 shown_pays : OneSide → (layout : Layout) (p : ProgressState) (mounted : Mounted) (a b : FlashState) → IfSome a.bytes (Shown layout p mounted) → Pays layout side_settle_steps a b
-shown_pays one layout p mounted a b shown = record { pays = λ side st is.
-    some_told (Shown layout p mounted) (SideStands layout side) a.bytes (Smaller a.patience b.patience) shown st (λ u s stands.
-    let e : s.side ≡ side = one layout s.side side u (shows_stands layout s.side u s.shows) stands in
-    absurd (none_due layout a.aim side (is_spoiled side.upload) (subst (λ (x : Side). is_spoiled x.upload ≡ false) e s.shows.settled) is)) }
+shown_pays one layout p mounted a b shown = record {
+  pays = λ side st is.
+      some_told (Shown layout p mounted) (SideStands layout side) a.bytes (Smaller a.patience b.patience) shown st (λ u s stands.
+      let e : s.side ≡ side = one layout s.side side u (shows_stands layout s.side u s.shows) stands in
+      absurd (none_due layout a.aim side (is_spoiled side.upload) (subst (λ (x : Side). is_spoiled x.upload ≡ false) e s.shows.settled) is));
+}
 
 nothing_needed : (n : ℕ) → n ≡ 0 → 0 < n → ⊥
 nothing_needed n e some = omega arith

@@ -1,5 +1,5 @@
 -- The records of a mount, by what was read.
-use Rattle.std.proofs.Common.{◌≡◌, ℕ, ◌+◌, ◌-◌, ◌<◌, ◌≤◌, Bool, true, false, Option, Some, None, List, length, refl, sym, ◌∙◌, ap, subst, arith, ◌&&◌, if◌then◌else◌}
+use Rattle.std.proofs.Common.{◌≡◌, ℕ, ◌+◌, ◌<◌, ◌≤◌, Bool, true, false, Option, Some, None, List, length, refl, sym, ◌∙◌, ap, subst, arith, ◌&&◌, if◌then◌else◌}
 use Rattle.std.specs.Prelude.{IfSome, IsTrue, nat_lt, not}
 use Rattle.std.specs.Str.{bytes_eq}
 use Rattle.std.proofs.lemmas.Slice.Eq.{bytes_eq-Decides}
@@ -17,16 +17,16 @@ use Rattle.smp_flash.proofs.Telling.{IfSome-map}
 use Rattle.smp_model.specs.declared.device.Side.{Side}
 use Rattle.smp_model.specs.declared.device.Upload.{Upload}
 use Rattle.smp_model.specs.declared.upload.Announcement.{Announcement}
-use Rattle.smp_model.specs.Uploads.{is_spoiled, differs}
+use Rattle.smp_model.specs.Uploads.{differs}
 use Rattle.smp_progress.specs.State.{ProgressState}
 use Rattle.smp_progress.specs.declared.record.Record.{Record}
 use Rattle.smp_progress.specs.declared.record.Record.TheVariants as records
 use Rattle.smp_upload.specs.Bytes.{CleanFrom, SideStandsAs, record_of}
-use Rattle.smp_upload.specs.Needs.{MountNeeds, mount_records, upload_records, is_unclean}
+use Rattle.smp_upload.specs.Needs.{MountNeeds, mount_records, is_unclean}
 use Rattle.smp_upload.specs.Rescuing.{HeldAs, NeedsJust}
 use Rattle.smp_upload.proofs.Parted.{incomplete_by}
 use Rattle.smp_upload.proofs.Sides.{OneRecord, one_side}
-use Rattle.smp_upload.proofs.Stored.{Found, found}
+use Rattle.smp_upload.proofs.Stored.{found}
 use Rattle.smp_upload.proofs.Tellings.{if_both}
 
 -- a mount of the same bytes needs the same records

@@ -1,5 +1,5 @@
 -- A part of an upload: the bytes, their record, and what settling makes of it.
-use Rattle.std.proofs.Common.{◌≡◌, ◌⊎◌, inl, inr, ℕ, zero, suc, ◌+◌, ◌<◌, ◌≤◌, Bool, true, false, Option, Some, None, List, [], ◌∷◌, ◌++◌, length, refl, sym, ◌∙◌, ap, subst, arith, ◌&&◌, if◌then◌else◌, length-append}
+use Rattle.std.proofs.Common.{◌≡◌, ◌⊎◌, inl, inr, ℕ, ◌+◌, ◌<◌, ◌≤◌, Bool, true, false, Option, Some, None, List, [], ◌∷◌, ◌++◌, length, refl, sym, ◌∙◌, ap, subst, arith, ◌&&◌, if◌then◌else◌, length-append}
 use Rattle.std.specs.Prelude.{IfSome, IsSome, option_map, not, ◌==◌, nat_lt}
 use Rattle.std.proofs.lemmas.Bool.Decides.{nat_tests}
 use Rattle.smp_flash.specs.Area.{Told}
@@ -17,7 +17,7 @@ use Rattle.smp_model.specs.declared.device.Upload.{Upload}
 use Rattle.smp_model.specs.declared.upload.Announcement.{Announcement}
 use Rattle.smp_model.specs.declared.error.TheConstants.{PAST_UPLOAD_END}
 use Rattle.smp_model.specs.Image.{good_image}
-use Rattle.smp_model.specs.ImageGroup.{keeps, completes, takes_part, wants, refuses_part}
+use Rattle.smp_model.specs.ImageGroup.{keeps, completes, refuses_part}
 use Rattle.smp_model.specs.Response.{SideResponse, side_responds}
 use Rattle.smp_model.specs.Said as said
 use Rattle.smp_model.specs.Sides.{SideStep, Append, Drop, SidePart, side_applied, side_apply, side_settle_steps}
@@ -26,12 +26,12 @@ use Rattle.smp_progress.specs.State.{ProgressState, AimsAtRecord}
 use Rattle.smp_tlv.specs.declared.carried.Carried.{Carried}
 use Rattle.smp_upload.specs.Bytes.{SideStands, SideShows}
 use Rattle.smp_upload.specs.Counting.{Pays, CountsSteps, AimsAtSlot}
-use Rattle.smp_upload.specs.Moves.{Reached, Moves, Does, KeepsPending, Moved, Done, one_step}
-use Rattle.smp_upload.specs.States.{Known, Says, Announced, announced, part_of, part_steps, chunk_said}
+use Rattle.smp_upload.specs.Moves.{Moves, Does, KeepsPending, Moved, Done, one_step}
+use Rattle.smp_upload.specs.States.{part_of, part_steps, chunk_said}
 use Rattle.smp_upload.specs.declared.states.Chunked.{Chunked}
-use Rattle.smp_upload.specs.Storing.{known_at, longer, Lays, Filled, Spoils, Settled, SaysMatched, SaysAt, matched_of, matched_at, settle_records}
+use Rattle.smp_upload.specs.Storing.{longer, Lays, Filled, Spoils, Settled, SaysMatched, SaysAt, matched_of, matched_at, settle_records}
 use Rattle.smp_upload.proofs.Composing.{part_more, part_after, ages_more, ages_sum, shows_stands}
-use Rattle.smp_upload.proofs.Resolved.{due, whole_shows, counts_due, complete_by, held_upload, filled_upload, same_ages, same_pending}
+use Rattle.smp_upload.proofs.Resolved.{due, whole_shows, counts_due, complete_by, filled_upload, same_ages, same_pending}
 use Rattle.smp_upload.proofs.Stored.{Found, found, Storing, met}
 use Rattle.smp_upload.proofs.Sides.{OneSide}
 use Rattle.smp_upload.proofs.Tellings.{told_two, old_three, if_both, same_if, some_told, all_told}
@@ -156,21 +156,27 @@ steps_are one layout p a o sums bytes ks side old g some says st =
     ap (λ (r : SideResponse). r.steps) (part_longer (geometry_of layout).unit bytes ks side a o (met one layout p a o sums side old says st).found g.fits g.kept_is some)
 
 moves_first : OneSide → (layout : Layout) (p : ProgressState) (a : Announcement) (o : ℕ) (sums : Carried) (bytes ks old new : List ℕ) → Given layout a o bytes ks → 0 < length ks → Storing layout p a o sums old → Moves layout (one_step (Append ks)) old new → Moves layout (part_steps (geometry_of layout).unit bytes) old new
-moves_first one layout p a o sums bytes ks old new g some says m = record { moves = λ side st.
-    let r = m.moves side st in
-    let q : SidePart side (Append ks ∷ due (is_spoiled (longer side ks).upload)) r.reached = part_more side r.reached (Append ks ∷ []) (due (is_spoiled (longer side ks).upload)) r.part in
-    record { reached = r.reached; part = subst (λ (xs : List SideStep). SidePart side xs r.reached) (sym (steps_are one layout p a o sums bytes ks side old g some says st)) q; stands = r.stands } }
+moves_first one layout p a o sums bytes ks old new g some says m = record {
+  moves = λ side st.
+      let r = m.moves side st in
+      let q : SidePart side (Append ks ∷ due (is_spoiled (longer side ks).upload)) r.reached = part_more side r.reached (Append ks ∷ []) (due (is_spoiled (longer side ks).upload)) r.part in
+      record { reached = r.reached; part = subst (λ (xs : List SideStep). SidePart side xs r.reached) (sym (steps_are one layout p a o sums bytes ks side old g some says st)) q; stands = r.stands };
+}
 
 part_moves : OneSide → (layout : Layout) (p : ProgressState) (a : Announcement) (o : ℕ) (sums : Carried) (bytes ks old mid new : List ℕ) → Given layout a o bytes ks → 0 < length ks → Storing layout p a o sums old → Lays layout ks old mid → Moves layout side_settle_steps mid new → Moves layout (part_steps (geometry_of layout).unit bytes) old new
-part_moves one layout p a o sums bytes ks old mid new g some says l m = record { moves = λ side st.
-    let r = m.moves (side_apply (Append ks) side) (record { rescue = false; stands = (l.lays side st).stands }) in
-    let q : SidePart side (Append ks ∷ due (is_spoiled (longer side ks).upload)) r.reached = part_after side r.reached (Append ks ∷ []) (due (is_spoiled (longer side ks).upload)) r.part in
-    record { reached = r.reached; part = subst (λ (xs : List SideStep). SidePart side xs r.reached) (sym (steps_are one layout p a o sums bytes ks side old g some says st)) q; stands = r.stands } }
+part_moves one layout p a o sums bytes ks old mid new g some says l m = record {
+  moves = λ side st.
+      let r = m.moves (side_apply (Append ks) side) (record { rescue = false; stands = (l.lays side st).stands }) in
+      let q : SidePart side (Append ks ∷ due (is_spoiled (longer side ks).upload)) r.reached = part_after side r.reached (Append ks ∷ []) (due (is_spoiled (longer side ks).upload)) r.part in
+      record { reached = r.reached; part = subst (λ (xs : List SideStep). SidePart side xs r.reached) (sym (steps_are one layout p a o sums bytes ks side old g some says st)) q; stands = r.stands };
+}
 
 part_does : OneSide → (layout : Layout) (p : ProgressState) (a : Announcement) (o : ℕ) (sums : Carried) (bytes ks old mid new : List ℕ) → Given layout a o bytes ks → 0 < length ks → Storing layout p a o sums old → Lays layout ks old mid → Does layout side_settle_steps mid new → Does layout (part_steps (geometry_of layout).unit bytes) old new
-part_does one layout p a o sums bytes ks old mid new g some says l m = record { does = λ side st.
-    let r = m.does (side_apply (Append ks) side) (record { rescue = false; stands = (l.lays side st).stands }) in
-    subst (λ (xs : List SideStep). SideShows layout (side_applied xs side) new) (sym (steps_are one layout p a o sums bytes ks side old g some says st)) r }
+part_does one layout p a o sums bytes ks old mid new g some says l m = record {
+  does = λ side st.
+      let r = m.does (side_apply (Append ks) side) (record { rescue = false; stands = (l.lays side st).stands }) in
+      subst (λ (xs : List SideStep). SideShows layout (side_applied xs side) new) (sym (steps_are one layout p a o sums bytes ks side old g some says st)) r;
+}
 
 pub first_moved : OneSide → (layout : Layout) (p : ProgressState) (a : Announcement) (o : ℕ) (sums : Carried) (bytes ks : List ℕ) (end : End) (s t : FlashState) → Given layout a o bytes ks → 0 < length ks → IfSome s.bytes (Storing layout p a o sums) → Calls (upload_spots layout) end s t
     → Told (Moves layout (one_step (Append ks))) s.bytes t.bytes → Told (AgesAtMost 1 (progress_of layout)) s.bytes t.bytes → Told (KeepsPending layout) s.bytes t.bytes → Moved layout (upload_spots layout) 2 (part_steps (geometry_of layout).unit bytes) end s t
@@ -199,12 +205,14 @@ counts_part layout aim side ks b is = elim is [
 
 part_pays : OneSide → (layout : Layout) (p : ProgressState) (a : Announcement) (o : ℕ) (sums : Carried) (bytes ks : List ℕ) (s t r : FlashState) → Given layout a o bytes ks → 0 < length ks → IfSome s.bytes (Storing layout p a o sums) → Goes t r → (AimsAtRecord layout s.aim → Smaller s.patience t.patience) → (AimsAtSlot layout 1 s.aim → Smaller s.patience t.patience)
     → Pays layout (part_steps (geometry_of layout).unit bytes) s r
-part_pays one layout p a o sums bytes ks s t r g some says h records slot = record { pays = λ side st is.
-    some_told (Storing layout p a o sums) (SideStands layout side) s.bytes (Smaller s.patience r.patience) says st (λ u k stands.
-    Smaller-then s.patience t.patience r.patience (elim (counts_part layout s.aim side ks (is_spoiled (longer side ks).upload) (subst (CountsSteps layout s.aim side) (steps_are one layout p a o sums bytes ks side u g some k stands) is)) [
-      | inl e ↦ records e
-      | inr e ↦ slot e
-    ]) h.patience) }
+part_pays one layout p a o sums bytes ks s t r g some says h records slot = record {
+  pays = λ side st is.
+      some_told (Storing layout p a o sums) (SideStands layout side) s.bytes (Smaller s.patience r.patience) says st (λ u k stands.
+      Smaller-then s.patience t.patience r.patience (elim (counts_part layout s.aim side ks (is_spoiled (longer side ks).upload) (subst (CountsSteps layout s.aim side) (steps_are one layout p a o sums bytes ks side u g some k stands) is)) [
+        | inl e ↦ records e
+        | inr e ↦ slot e
+      ]) h.patience);
+}
 
 pub both_done : OneSide → (layout : Layout) (p : ProgressState) (a : Announcement) (o : ℕ) (sums : Carried) (bytes ks : List ℕ) (s t r : FlashState) → Given layout a o bytes ks → 0 < length ks → IfSome s.bytes (Storing layout p a o sums) → Calls (upload_spots layout) Went s t
     → Told (Lays layout ks) s.bytes t.bytes → Told (AgesAtMost 1 (progress_of layout)) s.bytes t.bytes → (AimsAtRecord layout s.aim → Smaller s.patience t.patience) → (AimsAtSlot layout 1 s.aim → Smaller s.patience t.patience) → Told (KeepsPending layout) s.bytes r.bytes → Done layout (upload_spots layout) 1 side_settle_steps t r
@@ -231,8 +239,10 @@ due_records one layout p a o sums n ks side old says st low two = go side.upload
       where
         equal_of : (j k : ℕ) → (j == k) ≡ true → j ≡ k
         equal_of j k e = grind (arith, nat_tests)
+
         whole : o + length ks ≡ a.length
         whole = ap (λ (j : ℕ). j + length ks) (sym e) ∙ sym (length-append u.accepted ks) ∙ equal_of (length (u.accepted ++ ks)) u.announcement.length t ∙ ap (λ (b : Announcement). b.length) m
+
         digest_two : (digest : Option (List ℕ)) (held : List ℕ) → (IsSome digest → n ≡ 2) → 1 + (if differs digest held then 1 else 0) ≤ n
         digest_two None held f = low
         digest_two (Some x) held f = at_most (differs (Some x) held) (f refl)
@@ -240,6 +250,7 @@ due_records one layout p a o sums n ks side old says st low two = go side.upload
             at_most : (c : Bool) → n ≡ 2 → 1 + (if c then 1 else 0) ≤ n
             at_most true e = omega arith
             at_most false e = omega arith
+
     go : (up : Option Upload) → Found up (record { announcement = a; offset = o }) → 1 + settle_records (longer (record side { upload = up }) ks).upload ≤ n
     go None f = low
     go (Some u) f =
@@ -272,8 +283,10 @@ none_steps : OneSide → (layout : Layout) (p : ProgressState) (a : Announcement
 none_steps one layout p a o sums bytes ks side old g none says st = part_empty (geometry_of layout).unit bytes ks side a o (met one layout p a o sums side old says st).found g.fits g.kept_is none
 
 none_does : OneSide → (layout : Layout) (p : ProgressState) (a : Announcement) (o : ℕ) (sums : Carried) (bytes ks : List ℕ) (old : List ℕ) → Given layout a o bytes ks → length ks ≡ 0 → Storing layout p a o sums old → Does layout (part_steps (geometry_of layout).unit bytes) old old
-none_does one layout p a o sums bytes ks old g none says = record { does = λ side st.
-    subst (λ (r : SideResponse). SideShows layout (side_applied r.steps side) old) (sym (none_steps one layout p a o sums bytes ks side old g none says st)) (met one layout p a o sums side old says st).shows }
+none_does one layout p a o sums bytes ks old g none says = record {
+  does = λ side st.
+      subst (λ (r : SideResponse). SideShows layout (side_applied r.steps side) old) (sym (none_steps one layout p a o sums bytes ks side old g none says st)) (met one layout p a o sums side old says st).shows;
+}
 
 pub none_done : OneSide → (layout : Layout) (p : ProgressState) (a : Announcement) (o : ℕ) (sums : Carried) (bytes ks : List ℕ) (s : FlashState) → Given layout a o bytes ks → length ks ≡ 0 → IfSome s.bytes (Storing layout p a o sums) → Done layout (upload_spots layout) 2 (part_steps (geometry_of layout).unit bytes) s s
 none_done one layout p a o sums bytes ks s g none says = record {
@@ -281,8 +294,10 @@ none_done one layout p a o sums bytes ks s g none says = record {
   does = same_if (Storing layout p a o sums) (Does layout (part_steps (geometry_of layout).unit bytes)) s.bytes s.bytes (λ u h. none_does one layout p a o sums bytes ks u g none h) says refl;
   ages = same_if (λ u. Unit {0}) (AgesAtMost 2 (progress_of layout)) s.bytes s.bytes (λ u t. same_ages layout 2 u) (all_told s.bytes) refl;
   pending = same_if (λ u. Unit {0}) (KeepsPending layout) s.bytes s.bytes (λ u t. same_pending layout u) (all_told s.bytes) refl;
-  pays = record { pays = λ side st is. some_told (Storing layout p a o sums) (SideStands layout side) s.bytes (Smaller s.patience s.patience) says st (λ u h stands.
-      absurd (subst (λ (r : SideResponse). CountsSteps layout s.aim side r.steps) (none_steps one layout p a o sums bytes ks side u g none h stands) is)) };
+  pays = record {
+    pays = λ side st is. some_told (Storing layout p a o sums) (SideStands layout side) s.bytes (Smaller s.patience s.patience) says st (λ u h stands.
+        absurd (subst (λ (r : SideResponse). CountsSteps layout s.aim side r.steps) (none_steps one layout p a o sums bytes ks side u g none h stands) is));
+  };
 }
 
 pub none_said : OneSide → (layout : Layout) (p : ProgressState) (a : Announcement) (o : ℕ) (sums : Carried) (bytes ks : List ℕ) (x : Option (List ℕ)) → Given layout a o bytes ks → length ks ≡ 0 → IfSome x (Storing layout p a o sums) → IfSome x (λ held. (side : Side) → SideStands layout side held → said.offset o None ≡ (part_of (geometry_of layout).unit bytes side.upload).reply)

@@ -1,7 +1,7 @@
 -- A part of a flash as bytes.
 use Rattle.std.proofs.Common.{◌≡◌, ◌==◌, ℕ, zero, suc, ◌+◌, ◌<◌, ◌≤◌, List, [], ◌∷◌, length, take, drop, Option, Some, None, true, false, refl, ◌∙◌, sym, ap, subst, arith}
 use Rattle.std.specs.Prelude.{IfSome}
-use Rattle.std.specs.Option.{option_map, unwrap_or}
+use Rattle.std.specs.Option.{option_map}
 use Rattle.smp_flash.specs.Area.{AreBytes, area, spot, Keeps}
 use Rattle.smp_flash.specs.Calls.{Reads, Passes, Spends}
 use Rattle.smp_flash.specs.State.{FlashState, End}

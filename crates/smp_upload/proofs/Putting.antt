@@ -1,8 +1,8 @@
 -- A record is put: what the bytes stand for before and after.
-use Rattle.std.proofs.Common.{◌≡◌, ◌⊎◌, inl, inr, ℕ, ◌+◌, ◌-◌, ◌*◌, ◌%◌, ◌<◌, ◌≤◌, Bool, true, false, Option, Some, None, List, [], ◌∷◌, ◌++◌, length, refl, sym, ◌∙◌, ap, subst, arith}
-use Rattle.std.specs.Prelude.{IsSome, IfSome}
-use Rattle.smp_flash.specs.Area.{area, spot, Clear, Keeps, Told}
-use Rattle.smp_flash.specs.Calls.{Calls, Smaller}
+use Rattle.std.proofs.Common.{◌≡◌, ◌⊎◌, inl, inr, ℕ, ◌+◌, ◌-◌, ◌*◌, ◌≤◌, Bool, Option, None, List, sym, ◌∙◌, subst, arith}
+use Rattle.std.specs.Prelude.{IfSome}
+use Rattle.smp_flash.specs.Area.{Clear, Keeps, Told}
+use Rattle.smp_flash.specs.Calls.{Calls}
 use Rattle.smp_flash.specs.Geometry.{slot_size, Regular}
 use Rattle.smp_flash.specs.Layout.{geometry_of, slot_of, progress_of, scratch_of, upload_spots}
 use Rattle.smp_flash.specs.State.{FlashState, End}
@@ -10,7 +10,7 @@ use Rattle.smp_flash.specs.declared.layout.Layout.{Layout}
 use Rattle.smp_flash.proofs.Passing.{Calls-wider, Covers-two}
 use Rattle.smp_flash.proofs.Sizes.{regular}
 use Rattle.smp_flash.proofs.Telling.{Told-map}
-use Rattle.smp_gate.specs.Newest.{sides, AgesAtMost}
+use Rattle.smp_gate.specs.Newest.{sides}
 use Rattle.smp_model.specs.declared.device.Side.{Side}
 use Rattle.smp_model.specs.declared.device.Upload.{Upload}
 use Rattle.smp_model.specs.declared.upload.Mark.{Mark}
@@ -19,8 +19,8 @@ use Rattle.smp_model.specs.Sides.{SideStep, SidePart}
 use Rattle.smp_progress.specs.Cells.{HasRecord, OldOrThis}
 use Rattle.smp_progress.specs.Record.{IsRecord}
 use Rattle.smp_progress.specs.declared.record.Record.{Record}
-use Rattle.smp_upload.specs.Bytes.{SideStandsAs, SideStands, Accepts, pending_in, record_of}
-use Rattle.smp_upload.specs.Moves.{Reached, Moves, KeepsPending}
+use Rattle.smp_upload.specs.Bytes.{SideStandsAs, SideStands, Accepts, record_of}
+use Rattle.smp_upload.specs.Moves.{Reached, KeepsPending}
 use Rattle.smp_upload.proofs.Composing.{part_none}
 use Rattle.smp_upload.proofs.Frames.{Fixed, fixed_by, as_same, accepts_kept, record_same, lawful}
 

@@ -1,6 +1,6 @@
 -- A page's front is moved out and brought back.
-use Rattle.std.proofs.Common.{◌≡◌, ◌⊎◌, inl, inr, ℕ, ◌+◌, ◌-◌, ◌*◌, ◌%◌, ◌<◌, ◌≤◌, Bool, true, false, Option, Some, None, List, [], ◌∷◌, ◌++◌, length, refl, sym, ◌∙◌, ap, subst, arith}
-use Rattle.std.specs.Prelude.{IfSome, option_map}
+use Rattle.std.proofs.Common.{◌≡◌, inl, inr, ℕ, ◌+◌, ◌-◌, ◌*◌, ◌%◌, ◌<◌, ◌≤◌, Bool, true, false, Option, Some, None, List, [], ◌∷◌, ◌++◌, sym, ◌∙◌, ap, subst, arith}
+use Rattle.std.specs.Prelude.{IfSome}
 use Rattle.smp_flash.specs.Area.{area, blank, spot, Clear, Keeps, Told}
 use Rattle.smp_flash.specs.Calls.{Calls}
 use Rattle.smp_flash.specs.Geometry.{slot_size, tail, Regular, IsPage}
@@ -27,7 +27,7 @@ use Rattle.smp_upload.specs.Bytes.{SideStandsAs, SideStands, Accepts, CleanFrom,
 use Rattle.smp_upload.specs.Moves.{Moves, no_steps}
 use Rattle.smp_upload.specs.Rescuing.{HeldAs, Reflags}
 use Rattle.smp_upload.proofs.Composing.{part_none, ages_sum, ages_more}
-use Rattle.smp_upload.proofs.Frames.{Fixed, fixed_by, as_same, newest_kept, record_kept, record_same, progress_kept, lawful, ProgressLasts}
+use Rattle.smp_upload.proofs.Frames.{fixed_by, as_same, newest_kept, record_kept, record_same, progress_kept, lawful, ProgressLasts}
 use Rattle.smp_upload.proofs.Putting.{fixed_sides, accepts_sides, sides_Calls, sides_clear}
 use Rattle.smp_upload.proofs.Sides.{OneSide}
 use Rattle.smp_upload.proofs.Stored.{Found, found}
@@ -205,23 +205,27 @@ back_clean layout o m mid new i blanked ks = λ below.
 -- What a put of the same upload's record leaves, whatever its flag.
 flag_moves : OneSide → (layout : Layout) (flag to_flag : Bool) (p : ProgressState) (a : Announcement) (o : ℕ) (old mid new : List ℕ) → HeldAs layout flag p a o old → ((side : Side) → Here layout flag a o side old → SideStandsAs layout flag side mid)
     → ((side : Side) → Here layout flag a o side old → Accepts layout to_flag side.upload new) → Keeps (sides (progress_of layout)) mid new → OldOrThis layout (records.Upload a o to_flag) mid new → Moves layout no_steps old new
-flag_moves one layout flag to_flag p a o old mid new h was accepts ks either = record { moves = λ side st.
-    let e = here one layout flag p a o side old h st in
-    let m = was side e in
-    record {
-      reached = side;
-      part = part_none side [];
-      stands = elim either [
-        | inl same ↦ record { rescue = flag; stands = as_same layout flag flag side mid new (fixed_sides layout mid new ks) m (record_same layout (record_of flag side.upload) mid new same m.entry) (accepts_sides layout flag side.upload mid new (lawful layout (record_of flag side.upload) mid m.entry) ks m.accepts) }
-        | inr this ↦ record { rescue = to_flag; stands = as_same layout flag to_flag side mid new (fixed_sides layout mid new ks) m (record_found layout to_flag side.upload a o new e.found_is this) (accepts side e) }
-      ];
-    } }
+flag_moves one layout flag to_flag p a o old mid new h was accepts ks either = record {
+  moves = λ side st.
+      let e = here one layout flag p a o side old h st in
+      let m = was side e in
+      record {
+        reached = side;
+        part = part_none side [];
+        stands = elim either [
+          | inl same ↦ record { rescue = flag; stands = as_same layout flag flag side mid new (fixed_sides layout mid new ks) m (record_same layout (record_of flag side.upload) mid new same m.entry) (accepts_sides layout flag side.upload mid new (lawful layout (record_of flag side.upload) mid m.entry) ks m.accepts) }
+          | inr this ↦ record { rescue = to_flag; stands = as_same layout flag to_flag side mid new (fixed_sides layout mid new ks) m (record_found layout to_flag side.upload a o new e.found_is this) (accepts side e) }
+        ];
+      };
+}
 
 flag_same : OneSide → (layout : Layout) (flag to_flag : Bool) (p : ProgressState) (a : Announcement) (o : ℕ) (old mid new : List ℕ) → HeldAs layout flag p a o old → ((side : Side) → Here layout flag a o side old → SideStandsAs layout flag side mid)
     → ((side : Side) → Here layout flag a o side old → Accepts layout to_flag side.upload new) → Keeps (sides (progress_of layout)) mid new → HasRecord layout (records.Upload a o to_flag) new → Reflags layout to_flag old new
-flag_same one layout flag to_flag p a o old mid new h was accepts ks this = record { same = λ side st.
-    let e = here one layout flag p a o side old h st in
-    as_same layout flag to_flag side mid new (fixed_sides layout mid new ks) (was side e) (record_found layout to_flag side.upload a o new e.found_is this) (accepts side e) }
+flag_same one layout flag to_flag p a o old mid new h was accepts ks this = record {
+  same = λ side st.
+      let e = here one layout flag p a o side old h st in
+      as_same layout flag to_flag side mid new (fixed_sides layout mid new ks) (was side e) (record_found layout to_flag side.upload a o new e.found_is this) (accepts side e);
+}
 
 -- The two moves.
 abbrev pub OutOf : Layout → ℕ → List ℕ → List ℕ → Type 0

@@ -1,7 +1,6 @@
 -- A complete upload is settled.
-use Rattle.std.proofs.Common.{◌≡◌, ◌⊎◌, inl, inr, ℕ, ◌+◌, ◌<◌, ◌≤◌, Bool, true, false, Option, Some, None, List, [], ◌∷◌, length, refl, sym, ◌∙◌, ap, subst, arith, ◌&&◌, if◌then◌else◌}
+use Rattle.std.proofs.Common.{◌≡◌, inl, inr, ℕ, ◌+◌, Bool, true, false, Option, Some, None, List, [], ◌∷◌, length, refl, sym, ◌∙◌, ap, subst, arith, ◌&&◌, if◌then◌else◌}
 use Rattle.std.specs.Prelude.{IfSome, IsSome, IsSomeAnd, option_map, not, ◌==◌}
-use Rattle.std.specs.Str.{bytes_eq}
 use Rattle.std.proofs.lemmas.Bool.Decides.{nat_tests}
 use Rattle.sha2.specs.Sha256.{sha256}
 use Rattle.smp_flash.specs.Area.{area, spot, Keeps, Told}
@@ -28,15 +27,15 @@ use Rattle.smp_progress.specs.State.{ProgressState, ProgressSays, AimsAtRecord}
 use Rattle.smp_progress.specs.declared.record.Record.TheVariants as records
 use Rattle.smp_tlv.specs.Carried.{Carries}
 use Rattle.smp_tlv.specs.declared.carried.Carried.{Carried}
-use Rattle.smp_upload.specs.Bytes.{SideStandsAs, SideStands, SideShows, Clean, Accepts}
-use Rattle.smp_upload.specs.Counting.{Pays, CountsSteps}
+use Rattle.smp_upload.specs.Bytes.{SideStandsAs, SideStands, SideShows, Accepts}
+use Rattle.smp_upload.specs.Counting.{CountsSteps}
 use Rattle.smp_upload.specs.Faults.{upload_fault_end}
 use Rattle.smp_upload.specs.declared.states.UploadFault.{UploadFault}
 use Rattle.smp_upload.specs.declared.states.UploadFault.TheVariants as faults
 use Rattle.smp_upload.specs.Moves.{Moves, Does, KeepsPending, Moved, Done}
 use Rattle.smp_upload.specs.Rescuing.{HeldAs}
-use Rattle.smp_upload.specs.States.{Known, Says, Sums, Announced, announced}
-use Rattle.smp_upload.specs.Storing.{StandsClean, Filled, Spoils, Settled, SaysMatched, matched_of, settle_records, misses}
+use Rattle.smp_upload.specs.States.{Known, Says, Sums}
+use Rattle.smp_upload.specs.Storing.{StandsClean, Filled, Spoils, Settled, matched_of, settle_records, misses}
 use Rattle.smp_upload.proofs.Composing.{part_none, part_whole}
 use Rattle.smp_upload.proofs.Putting.{put_reached, as_after, fixed_sides, told_pending_sides, sides_Calls, good_free}
 use Rattle.smp_upload.proofs.Sides.{OneSide}
@@ -79,8 +78,10 @@ whole_shows one layout p a o sums side bytes f right st =
     record { stands = c.stands; settled = right side st; clean = c.clean }
 
 whole_does : OneSide → (layout : Layout) (p : ProgressState) (a : Announcement) (o : ℕ) (sums : Carried) (bytes : List ℕ) → Filled layout p a o sums bytes → Spoils layout false bytes → Does layout side_settle_steps bytes bytes
-whole_does one layout p a o sums bytes f right = record { does = λ side st.
-    subst (λ (b : Bool). SideShows layout (side_applied (due b) side) bytes) (sym (right side st)) (whole_shows one layout p a o sums side bytes f right st) }
+whole_does one layout p a o sums bytes f right = record {
+  does = λ side st.
+      subst (λ (b : Bool). SideShows layout (side_applied (due b) side) bytes) (sym (right side st)) (whole_shows one layout p a o sums side bytes f right st);
+}
 
 pub same_ages : (layout : Layout) (n : ℕ) (bytes : List ℕ) → AgesAtMost n (progress_of layout) bytes bytes
 same_ages layout n bytes = record { kept = omega arith; most = omega arith }
@@ -195,15 +196,19 @@ drop_part side true e = part_whole side (Drop ∷ [])
 drop_part side false e = absurd (cc e)
 
 drop_moves : OneSide → (layout : Layout) (p : ProgressState) (a : Announcement) (old new : List ℕ) → HeldAs layout false p a a.length old → Spoils layout true old → Keeps (sides (progress_of layout)) old new → OldOrThis layout records.None old new → Moves layout side_settle_steps old new
-drop_moves one layout p a old new f wrong k either = record { moves = λ side st.
-    put_reached layout side (side_settle_steps side) false None old new st k either tt (good_free side.pending None (held_free one layout false p a a.length side old f st)) (drop_part side (is_spoiled side.upload) (wrong side st)) }
+drop_moves one layout p a old new f wrong k either = record {
+  moves = λ side st.
+      put_reached layout side (side_settle_steps side) false None old new st k either tt (good_free side.pending None (held_free one layout false p a a.length side old f st)) (drop_part side (is_spoiled side.upload) (wrong side st));
+}
 
 pub none_shows : (layout : Layout) (r : Bool) (side : Side) (old new : List ℕ) → side.pending ≡ None → SideStandsAs layout r side old → Keeps (sides (progress_of layout)) old new → HasRecord layout records.None new → SideShows layout (record side { upload = None }) new
 none_shows layout r side old new free st k has = record { stands = as_after layout r false side None old new (fixed_sides layout old new k) st has tt (good_free side.pending None free); settled = refl; clean = tt }
 
 drop_does : OneSide → (layout : Layout) (p : ProgressState) (a : Announcement) (old new : List ℕ) → HeldAs layout false p a a.length old → Spoils layout true old → Keeps (sides (progress_of layout)) old new → HasRecord layout records.None new → Does layout side_settle_steps old new
-drop_does one layout p a old new f wrong k has = record { does = λ side st.
-    subst (λ (b : Bool). SideShows layout (side_applied (due b) side) new) (sym (wrong side st)) (none_shows layout st.rescue side old new (held_free one layout false p a a.length side old f st) st.stands k has) }
+drop_does one layout p a old new f wrong k has = record {
+  does = λ side st.
+      subst (λ (b : Bool). SideShows layout (side_applied (due b) side) new) (sym (wrong side st)) (none_shows layout st.rescue side old new (held_free one layout false p a a.length side old f st) st.stands k has);
+}
 
 -- what is known without an upload
 abbrev pub known_none : Layout → ProgressState → Known
@@ -270,8 +275,10 @@ done_after layout spots n steps p q r calls same m = record {
   does = Told-from (Does layout steps) p.bytes q.bytes r.bytes same m.does;
   ages = Told-from (AgesAtMost n (progress_of layout)) p.bytes q.bytes r.bytes same m.ages;
   pending = Told-from (KeepsPending layout) p.bytes q.bytes r.bytes same m.pending;
-  pays = record { pays = λ side st is. then_Smaller p.patience q.patience r.patience calls.passes.patience
-      (m.pays.pays side (subst (λ (o : Option (List ℕ)). IsSomeAnd o (SideStands layout side)) (sym same) st) (subst (λ (aim : Option Region). CountsSteps layout aim side (steps side)) (sym calls.passes.aim) is)) };
+  pays = record {
+    pays = λ side st is. then_Smaller p.patience q.patience r.patience calls.passes.patience
+        (m.pays.pays side (subst (λ (o : Option (List ℕ)). IsSomeAnd o (SideStands layout side)) (sym same) st) (subst (λ (aim : Option Region). CountsSteps layout aim side (steps side)) (sym calls.passes.aim) is));
+  };
 }
 
 -- what the digest tells

@@ -1,9 +1,9 @@
 -- A rescue as a part of a mount: no step is made, and the next part can be written.
-use Rattle.std.proofs.Common.{◌≡◌, ℕ, ◌+◌, ◌<◌, ◌≤◌, Bool, true, false, Option, Some, None, List, [], ◌∷◌, refl, sym, ◌∙◌, ap, subst, arith, ◌&&◌}
-use Rattle.std.specs.Prelude.{IfSome, IsSome, option_map}
+use Rattle.std.proofs.Common.{◌≡◌, ℕ, ◌<◌, ◌≤◌, Bool, true, false, Option, None, List, [], sym, ◌∙◌, ap, subst, ◌&&◌}
+use Rattle.std.specs.Prelude.{IfSome, IsSome}
 use Rattle.smp_flash.specs.Area.{Told}
 use Rattle.smp_flash.specs.Calls.{Calls, Smaller}
-use Rattle.smp_flash.specs.Layout.{geometry_of, progress_of, upload_spots}
+use Rattle.smp_flash.specs.Layout.{progress_of, upload_spots}
 use Rattle.smp_flash.specs.State.{FlashState, End}
 use Rattle.smp_flash.specs.State.End.{Went}
 use Rattle.smp_flash.specs.declared.layout.Layout.{Layout}
@@ -13,7 +13,7 @@ use Rattle.smp_gate.specs.Newest.{AgesAtMost}
 use Rattle.smp_model.specs.declared.device.Side.{Side}
 use Rattle.smp_model.specs.declared.device.Upload.{Upload}
 use Rattle.smp_model.specs.declared.upload.Announcement.{Announcement}
-use Rattle.smp_model.specs.Sides.{SideStep, side_applied, side_settle_steps}
+use Rattle.smp_model.specs.Sides.{side_applied, side_settle_steps}
 use Rattle.smp_model.specs.Uploads.{is_spoiled, differs}
 use Rattle.smp_progress.specs.State.{ProgressState, ProgressSays}
 use Rattle.smp_tlv.specs.declared.carried.Carried.{Carried}
@@ -21,13 +21,13 @@ use Rattle.smp_upload.specs.Bytes.{SideStands, SideShows, Clean, CleanFrom, pend
 use Rattle.smp_upload.specs.Counting.{Pays}
 use Rattle.smp_upload.specs.Moves.{Moves, Does, KeepsPending, Moved, Done, no_steps}
 use Rattle.smp_upload.specs.Rescuing.{HeldAs, Reflags, SumsHeld}
-use Rattle.smp_upload.specs.States.{announced, Sums}
+use Rattle.smp_upload.specs.States.{Sums}
 use Rattle.smp_upload.specs.Storing.{Filled, Spoils}
 use Rattle.smp_upload.proofs.Composing.{part_more, ages_more, ages_sum}
 use Rattle.smp_upload.proofs.Parted.{partial_spoils, incomplete_by}
 use Rattle.smp_upload.proofs.Resolved.{due, whole_shows, none_due}
 use Rattle.smp_upload.proofs.Sides.{OneSide}
-use Rattle.smp_upload.proofs.Stored.{Found, found}
+use Rattle.smp_upload.proofs.Stored.{found}
 use Rattle.smp_upload.proofs.Tellings.{told_three, new_three, if_both, some_told}
 
 -- an unfinished upload is not spoiled
@@ -87,13 +87,17 @@ still_moved layout flag p a o n end s t le h calls moves ages = record {
 }
 
 back_does : OneSide → (layout : Layout) (p next : ProgressState) (a : Announcement) (o : ℕ) (sums : Carried) (old new : List ℕ) → o < a.length → HeldAs layout true p a o old → Reflags layout false old new → Filled layout next a o sums new → Does layout side_settle_steps old new
-back_does one layout p next a o sums old new lt h r f = record { does = λ side st.
-    subst (λ (b : Bool). SideShows layout (side_applied (due b) side) new) (sym (held_spoils one layout true p a o old lt h side st))
-    (whole_shows one layout next a o sums side new f (partial_spoils one layout next a o sums new lt f) (record { rescue = false; stands = r.same side st })) }
+back_does one layout p next a o sums old new lt h r f = record {
+  does = λ side st.
+      subst (λ (b : Bool). SideShows layout (side_applied (due b) side) new) (sym (held_spoils one layout true p a o old lt h side st))
+      (whole_shows one layout next a o sums side new f (partial_spoils one layout next a o sums new lt f) (record { rescue = false; stands = r.same side st }));
+}
 
 unpaid : OneSide → (layout : Layout) (flag : Bool) (p : ProgressState) (a : Announcement) (o : ℕ) (s t : FlashState) → o < a.length → IfSome s.bytes (HeldAs layout flag p a o) → Pays layout side_settle_steps s t
-unpaid one layout flag p a o s t lt h = record { pays = λ side st is.
-    some_told (HeldAs layout flag p a o) (SideStands layout side) s.bytes (Smaller s.patience t.patience) h st (λ u hh stands. absurd (none_due layout s.aim side (is_spoiled side.upload) (held_spoils one layout flag p a o u lt hh side stands) is)) }
+unpaid one layout flag p a o s t lt h = record {
+  pays = λ side st is.
+      some_told (HeldAs layout flag p a o) (SideStands layout side) s.bytes (Smaller s.patience t.patience) h st (λ u hh stands. absurd (none_due layout s.aim side (is_spoiled side.upload) (held_spoils one layout flag p a o u lt hh side stands) is));
+}
 
 pub back_done : OneSide → (layout : Layout) (p next : ProgressState) (a : Announcement) (o : ℕ) (sums : Carried) (s t : FlashState) → o < a.length → IfSome s.bytes (HeldAs layout true p a o) → Calls (upload_spots layout) Went s t → Told (Reflags layout false) s.bytes t.bytes → IfSome t.bytes (Filled layout next a o sums) → Told (AgesAtMost 1 (progress_of layout)) s.bytes t.bytes
     → Done layout (upload_spots layout) 1 side_settle_steps s t

@@ -1,5 +1,5 @@
 -- A flash stands for one side.
-use Rattle.std.proofs.Common.{◌≡◌, ℕ, Bool, true, false, Option, Some, None, List, length, refl, sym, ◌∙◌, ap, subst}
+use Rattle.std.proofs.Common.{◌≡◌, ℕ, Bool, false, Option, Some, None, List, length, refl, sym, ◌∙◌, ap, subst}
 use Rattle.smp_flash.specs.declared.layout.Layout.{Layout}
 use Rattle.smp_model.specs.declared.device.Side.{Side}
 use Rattle.smp_model.specs.declared.device.Upload.{Upload}

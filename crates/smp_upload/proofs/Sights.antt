@@ -1,13 +1,13 @@
 -- What a look found, as a side that the bytes stand for.
-use Rattle.std.proofs.Common.{◌≡◌, ◌⊎◌, inl, inr, ℕ, ◌+◌, ◌-◌, ◌%◌, ◌<◌, ◌≤◌, Bool, true, false, Option, Some, None, List, [], ◌∷◌, ◌++◌, length, refl, sym, ◌∙◌, ap, subst, arith, ◌&&◌, if◌then◌else◌, length-append}
-use Rattle.std.specs.Prelude.{IfSome, IsSome, option_map, not, ◌==◌, nat_lt}
+use Rattle.std.proofs.Common.{◌≡◌, ℕ, ◌+◌, ◌-◌, ◌%◌, ◌<◌, ◌≤◌, Bool, true, false, Option, Some, None, List, length, refl, sym, ◌∙◌, ap, subst, arith, ◌&&◌, if◌then◌else◌, length-append}
+use Rattle.std.specs.Prelude.{IfSome, IsSome, not, nat_lt}
 use Rattle.std.specs.Str.{bytes_eq}
 use Rattle.std.proofs.lemmas.Slice.Eq.{bytes_eq-Decides}
 use Rattle.std.proofs.lemmas.Bool.Decides.{nat_tests}
 use Rattle.sha2.specs.Sha256.{sha256}
-use Rattle.smp_flash.specs.Area.{area, blank}
+use Rattle.smp_flash.specs.Area.{area}
 use Rattle.smp_flash.specs.Geometry.{slot_size, size_of, Regular}
-use Rattle.smp_flash.specs.Layout.{geometry_of, slot_of, scratch_of, progress_of}
+use Rattle.smp_flash.specs.Layout.{geometry_of, slot_of, scratch_of}
 use Rattle.smp_flash.specs.declared.layout.Layout.{Layout}
 use Rattle.smp_flash.proofs.Areas.{length-area}
 use Rattle.smp_flash.proofs.Layouts.{arranged}
@@ -21,28 +21,26 @@ use Rattle.smp_model.specs.declared.upload.Announcement.{Announcement}
 use Rattle.smp_model.specs.declared.upload.Mark.{Mark}
 use Rattle.smp_model.specs.Image.{good_image}
 use Rattle.smp_model.specs.Laws.{GoodWhere}
-use Rattle.smp_model.specs.Uploads.{is_spoiled, is_complete, differs, uploaded_image, IsGood}
+use Rattle.smp_model.specs.Uploads.{is_spoiled, is_complete, differs, IsGood}
 use Rattle.smp_progress.specs.Cells.{HasRecord}
-use Rattle.smp_progress.specs.Record.{IsUpload}
-use Rattle.smp_progress.specs.State.{ProgressState, ProgressSays}
+use Rattle.smp_progress.specs.State.{ProgressState}
 use Rattle.smp_progress.specs.declared.record.Record.{Record}
 use Rattle.smp_progress.specs.declared.record.Record.TheVariants as records
 use Rattle.smp_tlv.specs.Carried.{Carries}
 use Rattle.smp_tlv.specs.declared.carried.Carried.{Carried}
-use Rattle.smp_upload.specs.Bytes.{SideStandsAs, SideStands, SideShows, SideReadable, Accepts, Clean, CleanFrom, accepted_in, active_in, confirmed_in, pending_in, record_of}
+use Rattle.smp_upload.specs.Bytes.{SideStandsAs, SideStands, SideShows, SideReadable, Accepts, Clean, CleanFrom, accepted_in, active_in, confirmed_in, record_of}
 use Rattle.smp_upload.specs.Mounting.{Looked}
-use Rattle.smp_upload.specs.Needs.{MountNeeds, mount_records, is_unclean}
+use Rattle.smp_upload.specs.Needs.{mount_records, is_unclean}
 use Rattle.smp_upload.specs.Rescuing.{HeldAs, NeedsJust, SumsHeld}
-use Rattle.smp_upload.specs.States.{Known, Says, Sums, Announced, announced, known_mounted}
+use Rattle.smp_upload.specs.States.{Known, Says, Sums, known_mounted}
 use Rattle.smp_upload.specs.Storing.{Filled, Spoils, known_at, misses}
 use Rattle.smp_upload.specs.declared.states.Mounted.{Mounted}
-use Rattle.smp_upload.proofs.Composing.{shows_stands}
 use Rattle.smp_upload.proofs.Mounts.{Ready, Shown, Unreadable}
 use Rattle.smp_upload.proofs.Needed.{needs_once}
 use Rattle.smp_upload.proofs.Parted.{partial_says}
 use Rattle.smp_upload.proofs.Resolved.{known_none, complete_by, image_when, misses_is}
 use Rattle.smp_upload.proofs.Sides.{OneRecord, OneSide, one_side}
-use Rattle.smp_upload.proofs.Stored.{Found, found}
+use Rattle.smp_upload.proofs.Stored.{found}
 use Rattle.smp_upload.proofs.Tellings.{if_both}
 use Rattle.smp_upload.proofs.Young.{SaysGeneration, generation_is}
 
@@ -262,6 +260,7 @@ full_needs layout u bytes right long =
     by_test : (b c : Bool) → b ≡ false → (b && c) ≡ false
     by_test true c e = absurd (cc e)
     by_test false c e = refl
+
     unclean : is_unclean layout u bytes ≡ false
     unclean = by_test (nat_lt (length u.accepted) u.announcement.length) _ (ap (λ (n : ℕ). nat_lt n u.announcement.length) long ∙ same_below u.announcement.length)
 

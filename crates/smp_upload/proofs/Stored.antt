@@ -1,11 +1,10 @@
 -- Bytes are put into the secondary slot, and then the record.
-use Rattle.std.proofs.Common.{◌≡◌, ◌⊎◌, inl, inr, ℕ, ◌+◌, ◌-◌, ◌*◌, ◌%◌, ◌<◌, ◌≤◌, false, Option, Some, None, List, [], ◌∷◌, ◌++◌, length, refl, sym, ◌∙◌, ap, subst, arith, length-append}
+use Rattle.std.proofs.Common.{◌≡◌, inl, inr, ℕ, ◌+◌, ◌-◌, ◌*◌, ◌%◌, ◌<◌, ◌≤◌, false, Option, Some, None, List, [], ◌∷◌, ◌++◌, length, refl, sym, ◌∙◌, ap, subst, arith, length-append}
 use Rattle.std.specs.Prelude.{IfSome, IsSome, option_map}
 use Rattle.smp_flash.specs.Area.{area, blank, spot, Clear, Keeps, Told}
 use Rattle.smp_flash.specs.Calls.{Calls, Smaller, Goes}
-use Rattle.smp_flash.specs.declared.region.Region.{Region}
 use Rattle.smp_flash.specs.Geometry.{slot_size, tail, Regular, IsPage}
-use Rattle.smp_flash.specs.Layout.{geometry_of, slot_of, progress_of, scratch_of, upload_spots}
+use Rattle.smp_flash.specs.Layout.{geometry_of, slot_of, progress_of, upload_spots}
 use Rattle.smp_flash.specs.State.{FlashState, End}
 use Rattle.smp_flash.specs.State.End.{Went}
 use Rattle.smp_flash.specs.declared.layout.Layout.{Layout}
@@ -26,9 +25,9 @@ use Rattle.smp_progress.specs.declared.record.Record.TheVariants as records
 use Rattle.smp_slot.specs.Laid.{Laid}
 use Rattle.smp_tlv.specs.Carried.{Carries}
 use Rattle.smp_tlv.specs.declared.carried.Carried.{Carried}
-use Rattle.smp_upload.specs.Bytes.{SideStandsAs, SideStands, SideShows, Accepts, Clean, CleanFrom, accepted_in, pending_in, record_of}
-use Rattle.smp_upload.specs.Moves.{Reached, Moves, KeepsPending, one_step}
-use Rattle.smp_upload.specs.States.{Known, Knows, Says, Announced, announced, Sums}
+use Rattle.smp_upload.specs.Bytes.{SideStandsAs, SideStands, SideShows, Accepts, Clean, CleanFrom, pending_in, record_of}
+use Rattle.smp_upload.specs.Moves.{Moves, KeepsPending, one_step}
+use Rattle.smp_upload.specs.States.{Known, Says, Announced, announced, Sums}
 use Rattle.smp_upload.specs.Storing.{known_at, StandsClean, longer, Lays, Filled}
 use Rattle.smp_upload.proofs.Composing.{part_none, part_whole, ages_sum, shows_stands}
 use Rattle.smp_upload.proofs.Frames.{Fixed, fixed_by, as_same, newest_kept, record_kept, record_same, progress_kept, lawful, ProgressLasts}
@@ -176,32 +175,36 @@ both_lays : OneSide → (layout : Layout) (p : ProgressState) (a : Announcement)
 both_lays one layout p a o sums at bytes old mid new says b has = record { lays = λ side st. longer_as layout side a o at bytes old mid new (met one layout p a o sums side old says st) b has }
 
 torn_moves : OneSide → (layout : Layout) (p : ProgressState) (a : Announcement) (o : ℕ) (sums : Carried) (at size : ℕ) (steps : Side → List SideStep) (old new : List ℕ) → InSlot layout o at size → Storing layout p a o sums old → Keeps (spot at size) old new → Moves layout steps old new
-torn_moves one layout p a o sums at size steps old new i says k = record { moves = λ side st.
-    let m = met one layout p a o sums side old says st in
-    record { reached = side; part = part_none side (steps side); stands = record { rescue = false; stands = slot_as layout side a o at size old new i m.found k m.shows.stands } } }
+torn_moves one layout p a o sums at size steps old new i says k = record {
+  moves = λ side st.
+      let m = met one layout p a o sums side old says st in
+      record { reached = side; part = part_none side (steps side); stands = record { rescue = false; stands = slot_as layout side a o at size old new i m.found k m.shows.stands } };
+}
 
 both_moves : OneSide → (layout : Layout) (p : ProgressState) (a : Announcement) (o : ℕ) (sums : Carried) (at : ℕ) (bytes old mid new : List ℕ) → Storing layout p a o sums old → Both layout o at bytes old mid new → OldOrThis layout (records.Upload a (o + length bytes) false) mid new
     → Moves layout (one_step (Append bytes)) old new
-both_moves one layout p a o sums at bytes old mid new says b either = record { moves = λ side st.
-    let m = met one layout p a o sums side old says st in
-    let size = length bytes + tail (geometry_of layout).page (o + length bytes) in
-    let was : SideStandsAs layout false side mid = slot_as layout side a o at size old mid b.inside m.found b.laid.keeps m.shows.stands in
-    elim either [
-      | inl same ↦ record {
-        reached = side;
-        part = part_none side (Append bytes ∷ []);
-        stands = record {
-          rescue = false;
-          stands = as_same layout false false side mid new (fixed_sides layout mid new b.keeps) was (record_same layout (record_of false side.upload) mid new same was.entry)
-              (accepts_sides layout false side.upload mid new (lawful layout (record_of false side.upload) mid was.entry) b.keeps was.accepts);
-        };
-      }
-      | inr this ↦ record {
-        reached = side_apply (Append bytes) side;
-        part = part_whole side (Append bytes ∷ []);
-        stands = record { rescue = false; stands = (longer_as layout side a o at bytes old mid new m b this).stands };
-      }
-    ] }
+both_moves one layout p a o sums at bytes old mid new says b either = record {
+  moves = λ side st.
+      let m = met one layout p a o sums side old says st in
+      let size = length bytes + tail (geometry_of layout).page (o + length bytes) in
+      let was : SideStandsAs layout false side mid = slot_as layout side a o at size old mid b.inside m.found b.laid.keeps m.shows.stands in
+      elim either [
+        | inl same ↦ record {
+          reached = side;
+          part = part_none side (Append bytes ∷ []);
+          stands = record {
+            rescue = false;
+            stands = as_same layout false false side mid new (fixed_sides layout mid new b.keeps) was (record_same layout (record_of false side.upload) mid new same was.entry)
+                (accepts_sides layout false side.upload mid new (lawful layout (record_of false side.upload) mid was.entry) b.keeps was.accepts);
+          };
+        }
+        | inr this ↦ record {
+          reached = side_apply (Append bytes) side;
+          part = part_whole side (Append bytes ∷ []);
+          stands = record { rescue = false; stands = (longer_as layout side a o at bytes old mid new m b this).stands };
+        }
+      ];
+}
 
 -- nothing is pending before, so nothing is to be kept
 pub none_pending : (known : Known) (old new : List ℕ) → known.pending ≡ None → Says known old → KeepsPending known.layout old new

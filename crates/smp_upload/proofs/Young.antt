@@ -1,5 +1,5 @@
 -- The generation of a bank whose value holds.
-use Rattle.std.proofs.Common.{◌≡◌, ℕ, ◌+◌, ◌<◌, ◌^◌, Bool, true, false, Option, Some, None, List, [], take, drop, get_or, refl, sym, ◌∙◌, ap, subst, arith, ◌&&◌, ◌==◌}
+use Rattle.std.proofs.Common.{◌≡◌, ℕ, ◌<◌, ◌^◌, Bool, true, false, Some, List, take, drop, get_or, refl, sym, ◌∙◌, ap, subst, arith, ◌&&◌, ◌==◌}
 use Rattle.std.specs.Prelude.{nat_le, nat_lt}
 use Rattle.std.proofs.lemmas.Bool.Decides.{nat_tests}
 use Rattle.std.specs.Str.{bytes_eq}
@@ -10,7 +10,7 @@ use Rattle.smp_flash.specs.declared.layout.BankPlace.{BankPlace}
 use Rattle.smp_flash.specs.declared.layout.Layout.{Layout}
 use Rattle.smp_gate.specs.Bank.{BankState, BankSays, current}
 use Rattle.smp_gate.specs.Newest.{newest_generation}
-use Rattle.smp_gate.specs.Side.{ValidSide, valid_side, side_by, is_valid, generation_in, length_in, seven_bits}
+use Rattle.smp_gate.specs.Side.{ValidSide, side_by, is_valid, generation_in, length_in, seven_bits}
 use Rattle.smp_progress.specs.State.{ProgressState, ProgressSays, CanTake}
 
 -- what the crate below promises of a bank's value

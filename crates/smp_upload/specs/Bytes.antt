@@ -1,5 +1,5 @@
 -- What a flash's bytes stand for, as far as one image goes: its two slots, its progress bank and its scratch page.
-use Rattle.std.specs.Prelude.{◌≡◌, ◌+◌, ◌-◌, ◌<◌, ◌%◌, ℕ, Bool, true, false, List, [], ◌∷◌, ◌++◌, length, Option, Some, None, IsSome}
+use Rattle.std.specs.Prelude.{◌≡◌, ◌+◌, ◌-◌, ◌<◌, ◌%◌, ℕ, Bool, true, false, List, ◌++◌, length, Option, Some, None, IsSome}
 use Rattle.smp_flash.specs.Area.{area, blank, Clear}
 use Rattle.smp_flash.specs.Geometry.{slot_size, tail}
 use Rattle.smp_flash.specs.Layout.{geometry_of, slot_of, scratch_of, progress_of}

@@ -1,5 +1,5 @@
 -- What a mount finds, and what it makes of the flash.
-use Rattle.std.specs.Prelude.{◌≡◌, ◌<◌, ℕ, List, length, Option, Some, None, Result, Ok, Err, IsSome, OnOk, IfOk, IfErr, IfSome}
+use Rattle.std.specs.Prelude.{◌≡◌, ◌<◌, ℕ, List, length, Option, Some, None, Result, IsSome, OnOk, IfOk, IfErr, IfSome}
 use Rattle.smp_flash.specs.Area.{Told}
 use Rattle.smp_flash.specs.Calls.{Smaller}
 use Rattle.smp_flash.specs.Geometry.{size_of}

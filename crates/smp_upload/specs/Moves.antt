@@ -1,5 +1,5 @@
 -- What a call does to what the bytes stand for. The steps of a call are those of the side that it meets.
-use Rattle.std.specs.Prelude.{◌≡◌, ℕ, List, [], ◌∷◌, ◌++◌, Option, Some, None, IsSome}
+use Rattle.std.specs.Prelude.{◌≡◌, ℕ, List, [], ◌∷◌, ◌++◌, IsSome}
 use Rattle.smp_flash.specs.Area.{area, Told}
 use Rattle.smp_flash.specs.Calls.{Calls}
 use Rattle.smp_flash.specs.Layout.{slot_of, progress_of, area_spot, upload_spots}

@@ -1,5 +1,5 @@
 -- A part of a flash, as bytes that an image is read from.
-use Rattle.std.specs.Prelude.{ℕ, List, [], ◌∷◌}
+use Rattle.std.specs.Prelude.{ℕ, [], ◌∷◌}
 use Rattle.std.specs.Option.{option_map, unwrap_or}
 use Rattle.smp_flash.specs.Area.{area}
 use Rattle.smp_flash.specs.State.{FlashState}

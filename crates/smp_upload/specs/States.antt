@@ -1,5 +1,5 @@
 -- What the typed states say of a flash's bytes.
-use Rattle.std.specs.Prelude.{◌≡◌, ◌+◌, ℕ, Bool, true, false, List, [], length, Option, Some, None, option_map}
+use Rattle.std.specs.Prelude.{◌≡◌, ℕ, false, List, length, Option, Some, None, option_map}
 use Rattle.smp_flash.specs.declared.layout.Layout.{Layout}
 use Rattle.smp_model.specs.declared.device.Side.{Side}
 use Rattle.smp_model.specs.declared.device.Upload.{Upload}

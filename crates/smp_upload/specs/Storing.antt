@@ -1,5 +1,5 @@
 -- What the steps inside a call leave.
-use Rattle.std.specs.Prelude.{◌≡◌, ℕ, Bool, not, if◌then◌else◌, List, [], ◌∷◌, ◌++◌, length, Option, Some, None, option_map, false, true}
+use Rattle.std.specs.Prelude.{◌≡◌, ℕ, Bool, not, if◌then◌else◌, List, Option, Some, None, option_map, false}
 use Rattle.std.specs.Str.{bytes_eq}
 use Rattle.smp_flash.specs.declared.layout.Layout.{Layout}
 use Rattle.smp_flash.specs.Layout.{progress_of}

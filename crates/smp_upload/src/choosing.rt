@@ -90,7 +90,9 @@ impl Idle {
         ensures spends { OnOk result (AimsAtRecord self.layout (F.state flash.old).aim → Smaller (F.state flash.old).patience (F.state flash.new).patience) }
     {
         let Idle {
-            layout, progress, ..
+            layout,
+            progress,
+            ..
         } = self;
         begin(layout, progress, flash, announcement)
     }
@@ -123,7 +125,9 @@ impl Receiving {
         ensures spends { OnOk result (AimsAtRecord self.layout (F.state flash.old).aim → Smaller (F.state flash.old).patience (F.state flash.new).patience) }
     {
         let Receiving {
-            layout, progress, ..
+            layout,
+            progress,
+            ..
         } = self;
         begin(layout, progress, flash, announcement)
     }
@@ -156,7 +160,9 @@ impl Whole {
         ensures spends { OnOk result (AimsAtRecord self.layout (F.state flash.old).aim → Smaller (F.state flash.old).patience (F.state flash.new).patience) }
     {
         let Whole {
-            layout, progress, ..
+            layout,
+            progress,
+            ..
         } = self;
         begin(layout, progress, flash, announcement)
     }

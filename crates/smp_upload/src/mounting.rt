@@ -25,7 +25,7 @@ use crate::needing::records_needed;
 use crate::reading::finish;
 use crate::restoring::{end_rescue, restore};
 use crate::settling::{drop_upload, is_wrong};
-use crate::states::{Idle, Lost, Mounted, Pending, Receiving, UploadFault, Unmounted, Whole};
+use crate::states::{Idle, Lost, Mounted, Pending, Receiving, Unmounted, UploadFault, Whole};
 use crate::summing::sums_of;
 use smp_flash::{Flash, Layout};
 use smp_gate::bank_says_what_stands;

@@ -18,7 +18,9 @@ ghost use Rattle.smp_upload.specs.Reading.{part_state};
 
 use crate::faults::{from_read, lost};
 use crate::states::{Lost, UploadFault};
-use smp_flash::{Flash, FlashFault, Layout, Operation, regions_lie_apart, told_bytes_have_the_size};
+use smp_flash::{
+    Flash, FlashFault, Layout, Operation, regions_lie_apart, told_bytes_have_the_size,
+};
 use smp_model::{ImageFault, ImageInfo};
 use smp_tlv::{Bytes, Carried, Finished, check_hash, read_image};
 

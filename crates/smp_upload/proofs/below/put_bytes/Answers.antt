@@ -1,4 +1,4 @@
-use Rattle.std.proofs.Common.{◌≡◌, ◌+◌, ◌≤◌, ◌<◌, ◌∙◌, [], ℕ, sym, arith}
+use Rattle.std.proofs.Common.{◌+◌, ◌<◌, ◌∙◌, [], sym, arith}
 use Rattle.smp_flash.specs.Layout.{geometry_of, slot_of}
 use Rattle.smp_flash.specs.Geometry.{slot_size}
 use Rattle.smp_flash.specs.Region.{counts}

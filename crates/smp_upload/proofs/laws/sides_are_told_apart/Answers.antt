@@ -1,5 +1,4 @@
 use Rattle.smp_upload.proofs.Sides.{one_side}
-use Rattle.smp_upload.proofs.Composing.{Done-Done, Done-Moved, Moved-first, Done-is, Moved-wider, Done-wider}
 use Rattle.smp_upload.proofs.laws.sides_are_told_apart.Goals as goal
 
 pub returns : goal.returns

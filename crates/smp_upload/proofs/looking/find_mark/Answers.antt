@@ -1,4 +1,4 @@
-use Rattle.std.proofs.Common.{◌≡◌, ◌+◌, ◌-◌, ◌∙◌, subst}
+use Rattle.std.proofs.Common.{◌+◌, ◌-◌, ◌∙◌, subst}
 use Rattle.smp_flash.specs.Area.{spot}
 use Rattle.smp_flash.specs.Calls.{Calls}
 use Rattle.smp_flash.specs.declared.layout.Area.{Area}

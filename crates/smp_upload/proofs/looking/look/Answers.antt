@@ -1,4 +1,3 @@
-use Rattle.std.proofs.Common.{◌≡◌, ◌∙◌}
 use Rattle.smp_flash.proofs.Passing.{Calls-after}
 use Rattle.smp_upload.specs.Moves.{mount_spots}
 use Rattle.smp_upload.proofs.Ends.{unformatted_end}

@@ -1,4 +1,4 @@
-use Rattle.std.proofs.Common.{◌≡◌, ◌<◌, refl, sym, arith}
+use Rattle.std.proofs.Common.{refl, arith}
 use Rattle.smp_flash.proofs.Passing.{Calls-refl}
 use Rattle.smp_upload.proofs.Mounts.{formless_lost}
 use Rattle.smp_upload.proofs.Sights.{told_unfinished}

@@ -1,4 +1,4 @@
-use Rattle.std.proofs.Common.{◌≡◌, Option, refl, sym, subst}
+use Rattle.std.proofs.Common.{Option, refl, subst}
 use Rattle.std.specs.Prelude.{IfSome}
 use Rattle.smp_flash.proofs.Passing.{Calls-refl}
 use Rattle.smp_model.specs.declared.upload.Mark.{Mark}

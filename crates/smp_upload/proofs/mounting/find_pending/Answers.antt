@@ -1,16 +1,15 @@
-use Rattle.std.proofs.Common.{◌≡◌, ◌+◌, ◌≤◌, ◌∙◌, ℕ, List, Option, Some, None, true, false, refl, sym, ap, subst, arith}
+use Rattle.std.proofs.Common.{◌≡◌, ◌∙◌, ℕ, List, Option, Some, refl, sym, subst, arith}
 use Rattle.std.specs.Prelude.{IfSome}
 use Rattle.sha2.specs.Sha256.{sha256}
-use Rattle.smp_flash.specs.Geometry.{slot_size}
-use Rattle.smp_flash.specs.Layout.{geometry_of, upload_spots}
+use Rattle.smp_flash.specs.Layout.{upload_spots}
 use Rattle.smp_flash.proofs.Passing.{Calls-after}
 use Rattle.smp_model.specs.declared.image.ImageInfo.{ImageInfo}
 use Rattle.smp_model.specs.Image.{good_image}
 use Rattle.smp_upload.specs.Moves.{mount_spots}
 use Rattle.smp_upload.proofs.Looks.{upload_Calls, secondary_Calls}
 use Rattle.smp_upload.proofs.Mounts.{shown_ok, formless_lost, read_lost, mounts_after}
-use Rattle.smp_upload.proofs.Resolved.{slot_1_Calls, told_spoils}
-use Rattle.smp_upload.proofs.Sights.{told_complete, told_wrong, told_no_image, told_held_by, front_in}
+use Rattle.smp_upload.proofs.Resolved.{slot_1_Calls}
+use Rattle.smp_upload.proofs.Sights.{told_complete, told_wrong, told_no_image, front_in}
 use Rattle.smp_upload.proofs.mounting.find_pending.Goals as goal
 
 pub returns-in-Err : goal.returns-in-Err

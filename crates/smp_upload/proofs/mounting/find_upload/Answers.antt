@@ -1,4 +1,4 @@
-use Rattle.std.proofs.Common.{◌≡◌, ◌+◌, ◌≤◌, ◌<◌, arith}
+use Rattle.std.proofs.Common.{arith}
 use Rattle.smp_upload.proofs.Sights.{told_held_by}
 use Rattle.smp_upload.proofs.mounting.find_upload.Goals as goal
 

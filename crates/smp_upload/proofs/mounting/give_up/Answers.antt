@@ -1,4 +1,4 @@
-use Rattle.std.proofs.Common.{◌≡◌, ◌≤◌, false, refl, arith}
+use Rattle.std.proofs.Common.{false, refl, arith}
 use Rattle.smp_flash.proofs.Passing.{Calls-refl}
 use Rattle.smp_upload.proofs.Mounts.{changed_ok, changed_lost, worn_lost, no_take}
 use Rattle.smp_upload.proofs.Sights.{told_ready, told_spoiled_needs}

@@ -1,4 +1,4 @@
-use Rattle.std.proofs.Common.{◌≡◌, ◌≤◌, ℕ, Bool, false, refl, sym, subst, arith}
+use Rattle.std.proofs.Common.{◌≡◌, ℕ, Bool, false, refl, subst, arith}
 use Rattle.std.specs.Prelude.{IfSome}
 use Rattle.smp_flash.proofs.Passing.{Calls-refl}
 use Rattle.smp_progress.specs.State.{CanTake}

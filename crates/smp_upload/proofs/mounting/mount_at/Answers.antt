@@ -1,4 +1,3 @@
-use Rattle.std.proofs.Common.{◌≡◌}
 use Rattle.smp_upload.proofs.Mounts.{mounts_after}
 use Rattle.smp_upload.proofs.mounting.mount_at.Goals as goal
 

@@ -1,8 +1,6 @@
-use Rattle.std.proofs.Common.{◌≡◌, ◌≤◌, ◌∙◌, List, ℕ, Option, refl, sym, subst}
+use Rattle.std.proofs.Common.{◌∙◌, List, ℕ, Option, sym, subst}
 use Rattle.std.specs.Prelude.{IfSome}
 use Rattle.smp_flash.proofs.Passing.{Calls-after}
-use Rattle.smp_tlv.specs.Carried.{Carries}
-use Rattle.smp_upload.specs.Bytes.{accepted_in}
 use Rattle.smp_upload.specs.Moves.{mount_spots}
 use Rattle.smp_upload.specs.Rescuing.{HeldAs, SumsHeld}
 use Rattle.smp_upload.proofs.Looks.{upload_Calls}

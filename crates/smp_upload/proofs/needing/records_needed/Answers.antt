@@ -1,7 +1,5 @@
-use Rattle.std.proofs.Common.{◌≡◌, ◌+◌, ◌<◌, ◌≤◌, Bool, subst, true, false, arith}
+use Rattle.std.proofs.Common.{Bool, subst, true, false, arith}
 use Rattle.std.specs.Prelude.{IfSome}
-use Rattle.smp_flash.specs.Geometry.{slot_size}
-use Rattle.smp_flash.specs.Layout.{geometry_of}
 use Rattle.smp_upload.specs.Rescuing.{HeldAs}
 use Rattle.smp_upload.proofs.Needed.{told_needs_rescue, told_needs_tail, tail_calls, CleanIs}
 use Rattle.smp_upload.proofs.needing.records_needed.Goals as goal

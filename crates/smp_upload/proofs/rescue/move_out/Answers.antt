@@ -1,4 +1,4 @@
-use Rattle.std.proofs.Common.{◌≡◌, ◌+◌, ◌≤◌, ◌<◌, ◌∙◌, ℕ, arith}
+use Rattle.std.proofs.Common.{arith}
 use Rattle.smp_upload.proofs.Putting.{either_of, holds_of}
 use Rattle.smp_upload.proofs.Stored.{put_pays}
 use Rattle.smp_upload.proofs.Rescued.{Inner, out_Calls, then_sides, told_out_ages, then_ages, more_ages, told_out_says, told_out_torn, told_out_moves, told_out_flags}
@@ -75,4 +75,3 @@ returns-in-Ok-clause-pays g c =
     let a = c.args in
     let i : Inner a.layout a.offset = (record { some = c.requires.inner; inside = (let most = c.requires.most in let below = c.requires.below in omega arith) }) in
     put_pays a.layout (g.F.Flash.state c.args.flash.now) (g.F.Flash.state c.move_to_scratch.new.flash) (g.F.Flash.state c.put_record.new.flash) c.in_default.ensures.calls.passes c.in-Ok.ensures.pays
-

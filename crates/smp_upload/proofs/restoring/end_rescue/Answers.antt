@@ -1,4 +1,4 @@
-use Rattle.std.proofs.Common.{◌≡◌, ◌≤◌, arith, true}
+use Rattle.std.proofs.Common.{arith, true}
 use Rattle.smp_upload.proofs.Parted.{told_partial_says}
 use Rattle.smp_upload.proofs.Restored.{still_moved, back_done, told_back_filled}
 use Rattle.smp_upload.proofs.restoring.end_rescue.Goals as goal

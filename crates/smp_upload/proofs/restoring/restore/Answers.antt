@@ -1,4 +1,4 @@
-use Rattle.std.proofs.Common.{◌≡◌, ◌≤◌, arith, false}
+use Rattle.std.proofs.Common.{arith, false}
 use Rattle.std.proofs.lemmas.Result.{on_ok_weaker}
 use Rattle.smp_flash.proofs.Passing.{Smaller-then}
 use Rattle.smp_upload.proofs.Restored.{still_moved, then_moved, then_done, told_out_held, told_out_sums}

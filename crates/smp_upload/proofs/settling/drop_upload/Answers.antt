@@ -1,4 +1,3 @@
-use Rattle.std.proofs.Common.{◌≡◌, ◌∙◌, refl, sym, ap, true}
 use Rattle.smp_upload.proofs.Resolved.{drop_moved, drop_done, told_dropped, told_settled, told_held_says}
 use Rattle.smp_upload.proofs.settling.drop_upload.Goals as goal
 

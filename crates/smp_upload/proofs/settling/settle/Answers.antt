@@ -1,4 +1,4 @@
-use Rattle.std.proofs.Common.{◌≡◌, ◌∙◌, refl, sym, ap, true, false}
+use Rattle.std.proofs.Common.{◌∙◌, refl, sym, true, false}
 use Rattle.std.proofs.lemmas.Result.{on_ok_weaker}
 use Rattle.smp_flash.specs.Layout.{upload_spots}
 use Rattle.smp_flash.proofs.Passing.{reads_add}

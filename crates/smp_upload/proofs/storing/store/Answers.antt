@@ -1,11 +1,9 @@
-use Rattle.std.proofs.Common.{◌≡◌, ◌+◌, ◌*◌, ◌<◌, ◌≤◌, ◌%◌, ◌∷◌, [], ◌∙◌, length, refl, sym, ap, subst, arith, ℕ}
-use Rattle.smp_flash.specs.Geometry.{tail}
+use Rattle.std.proofs.Common.{length, refl, arith}
 use Rattle.smp_flash.specs.Layout.{progress_of}
 use Rattle.smp_gate.specs.Newest.{AgesAtMost}
-use Rattle.smp_flash.proofs.Passing.{Smaller-then}
 use Rattle.smp_upload.specs.Storing.{known_at}
 use Rattle.smp_upload.proofs.Putting.{either_of, holds_of}
-use Rattle.smp_upload.proofs.Stored.{InSlot, in_slot, slot_Calls, chain_Calls, told_slot_ages, told_chain_ages, told_torn, told_progress, told_pending, told_both_moves, told_both_lays, told_clean, put_pays, told_filled}
+use Rattle.smp_upload.proofs.Stored.{in_slot, slot_Calls, chain_Calls, told_slot_ages, told_chain_ages, told_torn, told_progress, told_pending, told_both_moves, told_both_lays, told_clean, put_pays, told_filled}
 use Rattle.smp_upload.proofs.storing.store.Goals as goal
 
 pub put_bytes-requires-clause-clean : goal.put_bytes-requires-clause-clean
@@ -90,4 +88,3 @@ pub returns-in-Ok-clause-pays : goal.returns-in-Ok-clause-pays
 returns-in-Ok-clause-pays g c =
     let a = c.args in
     put_pays a.layout (g.F.Flash.state c.args.flash.now) (g.F.Flash.state c.put_bytes.new.flash) (g.F.Flash.state c.put_record.new.flash) c.in_default.ensures.calls.passes c.in-Ok.ensures.pays
-

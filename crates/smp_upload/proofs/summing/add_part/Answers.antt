@@ -1,4 +1,4 @@
-use Rattle.std.proofs.Common.{◌≡◌, ◌+◌, ◌-◌, ◌<◌, ◌≤◌, ◌∙◌, ℕ, drop, length, length-append, sym, subst, arith, rules}
+use Rattle.std.proofs.Common.{◌+◌, ◌<◌, ◌≤◌, ◌∙◌, ℕ, drop, length, length-append, sym, subst, arith, rules}
 use Rattle.smp_flash.proofs.Passing.{reads_add}
 use Rattle.smp_upload.proofs.Summed.{told_more, block_Calls}
 use Rattle.smp_upload.proofs.summing.add_part.Goals as goal

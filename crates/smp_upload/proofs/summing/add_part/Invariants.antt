@@ -1,4 +1,4 @@
-use Rattle.std.proofs.Common.{◌≡◌, ◌+◌, ◌-◌, ◌<◌, ◌≤◌, ◌++◌, ℕ, List, length}
+use Rattle.std.proofs.Common.{◌≡◌, ◌-◌, ◌<◌, ◌≤◌, ◌++◌, ℕ, List, length}
 use Rattle.std.specs.Prelude.{IfSome}
 use Rattle.smp_flash.specs.Area.{area, spot}
 use Rattle.smp_flash.specs.Calls.{Calls, ReadsAtMost}

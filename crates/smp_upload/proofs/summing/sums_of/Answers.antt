@@ -1,4 +1,4 @@
-use Rattle.std.proofs.Common.{◌≡◌, ◌-◌, ◌≤◌, ◌∙◌, ap, arith}
+use Rattle.std.proofs.Common.{◌-◌, ◌≤◌, ◌∙◌, ap, arith}
 use Rattle.smp_flash.specs.Geometry.{slot_size}
 use Rattle.smp_flash.specs.Layout.{geometry_of, upload_spots}
 use Rattle.smp_flash.specs.declared.layout.Area.{Area}

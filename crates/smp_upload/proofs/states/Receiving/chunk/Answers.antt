@@ -1,7 +1,6 @@
-use Rattle.std.proofs.Common.{◌≡◌, ◌+◌, ◌<◌, ◌≤◌, ◌∙◌, ℕ, List, length, refl, sym, ap, subst, arith, rules}
+use Rattle.std.proofs.Common.{◌≡◌, ◌<◌, ℕ, length, refl, subst, arith, rules}
 use Rattle.std.proofs.lemmas.Result.{IfOk-weaker, on_ok_weaker}
 use Rattle.smp_flash.specs.Area.{Told}
-use Rattle.smp_flash.specs.Calls.{ReadsAtMost}
 use Rattle.smp_flash.specs.Layout.{progress_of, upload_spots}
 use Rattle.smp_flash.proofs.Passing.{Smaller-then, reads_more}
 use Rattle.smp_gate.specs.Newest.{AgesAtMost}
