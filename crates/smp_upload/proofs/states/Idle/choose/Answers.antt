@@ -1,0 +1,7 @@
+use Rattle.std.proofs.Common.{refl}
+use Rattle.smp_upload.specs.States.{known_idle}
+use Rattle.smp_upload.proofs.Begun.{free_of}
+use Rattle.smp_upload.proofs.states.Idle.choose.Goals as goal
+
+pub begin-requires-clause-free : goal.begin-requires-clause-free
+begin-requires-clause-free g c = free_of (known_idle c.args.self) _ refl c.requires.says

@@ -1,0 +1,14 @@
+pub mod Bytes
+pub mod Counting
+pub mod Erasing
+pub mod Faults
+pub mod Mounting
+pub mod Moves
+pub mod Needs
+pub mod Primary
+pub mod Reading
+pub mod States
+pub mod Free
+pub mod Storing
+pub mod Rescuing
+pub mod Summing
