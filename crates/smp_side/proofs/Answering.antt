@@ -17,7 +17,7 @@ use Rattle.smp_model.specs.declared.device.Side.{Side}
 use Rattle.smp_model.specs.declared.device.Upload.{Upload}
 use Rattle.smp_model.specs.declared.reply.Reply.{Reply}
 use Rattle.smp_model.specs.Response.{SideResponse, side_responds}
-use Rattle.smp_model.specs.Said.{Said, said_of}
+use Rattle.smp_model.specs.Said.{Said, said_of, is_error}
 use Rattle.smp_model.specs.Sides.{SideStep, Drop, side_applied, side_settle_steps, SidePart}
 use Rattle.smp_model.specs.Uploads.{is_spoiled}
 use Rattle.smp_progress.specs.State.{CanTake}
@@ -36,7 +36,7 @@ use Rattle.smp_upload.specs.declared.states.UploadFault.TheVariants as faults
 use Rattle.smp_upload.proofs.Sides.{OneSide, says_shows, says_knows}
 use Rattle.smp_upload.proofs.Young.{SaysGeneration, generation_is}
 use Rattle.smp_upload.proofs.Composing.{shows_stands, part_none, Done-Moved, Done-Done, Done-is, ages_more}
-use Rattle.smp_side.specs.Held.{held_layout, HeldSays, is_mounted, is_ok, result_end, steps_by, Tells, Answers, responds_after, Broken, Caused, ResultCaused}
+use Rattle.smp_side.specs.Held.{held_layout, HeldSays, is_mounted, is_ok, result_end, steps_by, Tells, Answers, responds_after, Broken, Caused, ResultCaused, Tried}
 use Rattle.smp_side.specs.declared.held.Held.{Held}
 use Rattle.smp_side.specs.declared.held.Held.TheVariants as helds
 use Rattle.smp_side.specs.declared.held.Handed.{Handed}
@@ -198,10 +198,14 @@ caused_by law known k n faults.Worn x says f w le = worn_known law known k n x s
 caused_by law known k n (faults.Fault operation) x says f w le = tt
 caused_by law known k n faults.Off x says f w le = tt
 
+-- of whatever side the bytes stand for the response is no error
+abbrev pub NoRefusal : Layout → (Side → SideResponse) → Option (List ℕ) → Type 0
+NoRefusal layout respond x = IfSome x (λ held. (side : Side) → SideStands layout side held → is_error (respond side).reply ≡ false)
+
 broken_here : (layout : Layout) (n : ℕ) (respond : Side → SideResponse) (held : Held) (fault : UploadFault) (a b : FlashState)
-    → held_layout held ≡ layout → is_mounted held ≡ false → Moved layout (mount_spots layout) n (steps_by respond) (upload_fault_end fault) a b → IfSome a.bytes (SideReadable layout) → Caused layout n fault a.bytes
+    → held_layout held ≡ layout → is_mounted held ≡ false → Moved layout (mount_spots layout) n (steps_by respond) (upload_fault_end fault) a b → IfSome a.bytes (SideReadable layout) → Caused layout n fault a.bytes → NoRefusal layout respond a.bytes
     → Answers layout n respond (record { held = held; result = Err fault }) a b
-broken_here layout n respond held fault a b e un m r c = record {
+broken_here layout n respond held fault a b e un m r c t = record {
   moved = m;
   done = tt;
   said = tt;
@@ -210,13 +214,14 @@ broken_here layout n respond held fault a b e un m r c = record {
   layout_kept = e;
   mounted = un;
   caused = c;
+  tried = t;
 }
 
 pub broken_off : (layout : Layout) (n : ℕ) (respond : Side → SideResponse) (handed : Handed) (fault : UploadFault) (a b : FlashState)
-    → Broken layout fault handed → Moved layout (mount_spots layout) n (steps_by respond) (upload_fault_end fault) a b → IfSome a.bytes (SideReadable layout) → Caused layout n fault a.bytes → Answers layout n respond handed a b
-broken_off layout n respond handed fault a b broken m r c =
+    → Broken layout fault handed → Moved layout (mount_spots layout) n (steps_by respond) (upload_fault_end fault) a b → IfSome a.bytes (SideReadable layout) → Caused layout n fault a.bytes → NoRefusal layout respond a.bytes → Answers layout n respond handed a b
+broken_off layout n respond handed fault a b broken m r c t =
     let same : record { held = handed.held; result = Err fault } ≡ handed = (λ i. record { held = handed.held; result = sym broken.failed i }) in
-    subst (λ (h : Handed). Answers layout n respond h a b) same (broken_here layout n respond handed.held fault a b broken.layout_kept broken.unmounted m r c)
+    subst (λ (h : Handed). Answers layout n respond h a b) same (broken_here layout n respond handed.held fault a b broken.layout_kept broken.unmounted m r c t)
 
 -- One call and then another.
 
@@ -230,6 +235,17 @@ said_after : {E : Type 0} (P Q : Reply → Type 0) (r : Result Reply E) → ((x 
 said_after P Q (Ok x) f p = f x p
 said_after P Q (Err e) f p = tt
 
+told_tried : (layout : Layout) (s : Side → List SideStep) (respond : Side → SideResponse) (x y : Option (List ℕ))
+    → Told (Does layout s) x y → NoRefusal layout respond y → NoRefusal layout (responds_after s respond) x
+told_tried layout s respond None y f t = tt
+told_tried layout s respond (Some u) None f t = absurd f
+told_tried layout s respond (Some u) (Some v) f t = λ side stands. t (side_applied (s side) side) (shows_stands layout (side_applied (s side) side) v (f.does side stands))
+
+tried_after : (layout : Layout) (s : Side → List SideStep) (respond : Side → SideResponse) (r : Result Reply UploadFault) (x y : Option (List ℕ))
+    → Told (Does layout s) x y → Tried layout respond r y → Tried layout (responds_after s respond) r x
+tried_after layout s respond (Ok reply) x y f t = tt
+tried_after layout s respond (Err fault) x y f t = told_tried layout s respond x y f t
+
 pub answers_after : (layout : Layout) (m n : ℕ) (s : Side → List SideStep) (respond : Side → SideResponse) (handed : Handed) (a b c : FlashState)
     → Done layout (mount_spots layout) m s a b → Answers layout n respond handed b c → Answers layout (m + n) (responds_after s respond) handed a c
 answers_after layout m n s respond handed a b c f h = record {
@@ -240,6 +256,7 @@ answers_after layout m n s respond handed a b c f h = record {
   layout_kept = h.layout_kept;
   mounted = h.mounted;
   caused = result_after layout m n handed.result a.bytes b.bytes f.ages h.caused;
+  tried = tried_after layout s respond handed.result a.bytes b.bytes f.does h.tried;
 }
 
 -- The same response, of the sides that the bytes stand for.
@@ -284,6 +301,14 @@ tells_as : (layout : Layout) (one other : Side → SideResponse) (reply : Reply)
 tells_as layout one other reply None same t = tt
 tells_as layout one other reply (Some u) same t = λ side stands. t side stands ∙ ap (λ (r : SideResponse). r.reply) (same.same side stands)
 
+pub no_refusal_as : (layout : Layout) (one other : Side → SideResponse) (x : Option (List ℕ)) → IfSome x (Same layout one other) → NoRefusal layout one x → NoRefusal layout other x
+no_refusal_as layout one other None same t = tt
+no_refusal_as layout one other (Some u) same t = λ side stands. ap (λ (r : SideResponse). is_error r.reply) (sym (same.same side stands)) ∙ t side stands
+
+tried_as : (layout : Layout) (one other : Side → SideResponse) (r : Result Reply UploadFault) (x : Option (List ℕ)) → IfSome x (Same layout one other) → Tried layout one r x → Tried layout other r x
+tried_as layout one other (Ok reply) x same t = tt
+tried_as layout one other (Err fault) x same t = no_refusal_as layout one other x same t
+
 pub answers_as : (layout : Layout) (n : ℕ) (one other : Side → SideResponse) (handed : Handed) (a b : FlashState) → IfSome a.bytes (Same layout one other)
     → Answers layout n one handed a b → Answers layout n other handed a b
 answers_as layout n one other handed a b same f = record {
@@ -294,6 +319,7 @@ answers_as layout n one other handed a b same f = record {
   layout_kept = f.layout_kept;
   mounted = f.mounted;
   caused = f.caused;
+  tried = tried_as layout one other handed.result a.bytes same f.tried;
 }
 
 pub Moved-more : (layout : Layout) (spots : List (ℕ × ℕ)) (m n : ℕ) (s : Side → List SideStep) (end : End) (a b : FlashState) → m ≤ n → Moved layout spots m s end a b → Moved layout spots n s end a b
@@ -313,6 +339,7 @@ answers_more layout m n respond handed a b le f = record {
   layout_kept = f.layout_kept;
   mounted = f.mounted;
   caused = result_more layout m n handed.result a.bytes le f.caused;
+  tried = f.tried;
 }
 
 -- Answered, and nothing changes.
@@ -347,6 +374,7 @@ answered_then one m n respond reply handed a b e calls kept says p =
       layout_kept = refl;
       mounted = refl;
       caused = tt;
+      tried = tt;
     } in
     subst (λ (h : Handed). Answers l n respond h a b) (sym e) here
 

@@ -1,5 +1,5 @@
 -- Parts of an upload: what a side answers, by what a state knows.
-use Rattle.std.proofs.Common.{◌≡◌, ◌⊎◌, inl, inr, ℕ, ◌+◌, ◌*◌, ◌/◌, ◌<◌, ◌≤◌, ◌==◌, Bool, true, false, Option, Some, None, List, [], ◌∷◌, length, take, Result, Ok, Err, refl, sym, ◌∙◌, ap, subst, arith, nat_lt, if◌then◌else◌}
+use Rattle.std.proofs.Common.{◌≡◌, ◌⊎◌, inl, inr, ℕ, ◌+◌, ◌*◌, ◌/◌, ◌<◌, ◌≤◌, ◌==◌, Bool, true, false, Option, Some, None, List, [], ◌∷◌, ◌++◌, length, take, Result, Ok, Err, refl, sym, ◌∙◌, ap, subst, arith, nat_lt, if◌then◌else◌}
 use Rattle.std.proofs.lemmas.Bool.Decides.{nat_tests}
 use Rattle.std.specs.Prelude.{IfSome, option_map, is_some, ◌&&◌}
 use Rattle.smp_flash.specs.Layout.{geometry_of, upload_spots}
@@ -13,12 +13,12 @@ use Rattle.smp_model.specs.declared.reply.Reply.{Reply}
 use Rattle.smp_model.specs.declared.reply.Reply.TheVariants as replied
 use Rattle.smp_model.specs.declared.upload.Announcement.{Announcement}
 use Rattle.smp_model.specs.declared.upload.Mark.{Mark}
-use Rattle.smp_model.specs.ImageGroup.{begins, start_at, part_at, new_start, resumes, takes_part, keeps, wants, refuses_part}
+use Rattle.smp_model.specs.ImageGroup.{begins, start_at, part_at, new_start, resumes, takes_part, keeps, wants, refuses_part, completes}
 use Rattle.smp_model.specs.Response.{SideResponse, side_responds}
-use Rattle.smp_model.specs.Said.{Said, said_of}
+use Rattle.smp_model.specs.Said.{Said, said_of, is_error}
 use Rattle.smp_model.specs.Said as said
-use Rattle.smp_model.specs.Sides.{SideStep, Choose}
-use Rattle.smp_model.specs.Uploads.{is_resumed_by, is_tagged_by, kept}
+use Rattle.smp_model.specs.Sides.{SideStep, Choose, Append, Drop}
+use Rattle.smp_model.specs.Uploads.{is_resumed_by, is_tagged_by, kept, differs}
 use Rattle.smp_upload.specs.Bytes.{SideStands, SideReadable}
 use Rattle.smp_upload.specs.Faults.{upload_fault_end}
 use Rattle.smp_upload.specs.Moves.{Moved, Done, mount_spots, one_step}
@@ -33,7 +33,7 @@ use Rattle.smp_upload.proofs.Sides.{OneSide, says_knows}
 use Rattle.smp_side.specs.Held.{steps_by, Tells, Answers, Broken, Caused, responds_after}
 use Rattle.smp_side.specs.declared.held.Held.TheVariants as helds
 use Rattle.smp_side.specs.declared.held.Handed.{Handed}
-use Rattle.smp_side.proofs.Answering.{Plain, Same, answers_after, answers_as, answers_more, answered, broken_off}
+use Rattle.smp_side.proofs.Answering.{Plain, Same, answers_after, answers_as, answers_more, answered, broken_off, NoRefusal}
 
 -- an upload of which this is known
 pub record Is (a : Announcement) (o : ℕ) (u : Upload) : Type 0 where
@@ -186,13 +186,49 @@ part_refused one m a o unit bytes handed x e lt h says =
     answered one m 2 (parting unit bytes) (replied.GroupError 1 31) handed x h says
     (λ held s. plain_upload one (known_mounted m) a o (λ _ up. part_of unit bytes up) (said.group_error 1 31) held e (λ _ u _ is. too_long unit bytes a o u lt is) s)
 
+-- A part that fits is not refused.
+
+completes_fine : (held bytes : List ℕ) (digest : Option (List ℕ)) → is_error (completes held bytes digest).reply ≡ false
+completes_fine held bytes None = refl
+completes_fine held bytes (Some digest) = either (differs (Some digest) (held ++ bytes))
+  where
+    either : (b : Bool) → is_error (if b then side_responds (said.offset (length held + length bytes) (Some false)) (Append bytes ∷ Drop ∷ [])
+        else side_responds (said.offset (length held + length bytes) (Some true)) (Append bytes ∷ [])).reply ≡ false
+    either true = refl
+    either false = refl
+
+keeps_fine : (a : Announcement) (held bytes : List ℕ) → is_error (keeps a held bytes).reply ≡ false
+keeps_fine a held [] = refl
+keeps_fine a held (x ∷ xs) = either (length held + length (x ∷ xs) == a.length)
+  where
+    either : (b : Bool) → is_error (if b then completes held (x ∷ xs) a.digest else side_responds (said.offset (length held + length (x ∷ xs)) None) (Append (x ∷ xs) ∷ [])).reply ≡ false
+    either true = completes_fine held (x ∷ xs) a.digest
+    either false = refl
+
+takes_fine : (unit : ℕ) (a : Announcement) (held bytes : List ℕ) → nat_lt a.length (length held + length bytes) ≡ false → is_error (takes_part unit a held bytes).reply ≡ false
+takes_fine unit a held bytes e =
+    ap (λ (x : Bool). is_error (if x then refuses_part PAST_UPLOAD_END else keeps a held (kept unit a.length (length held) bytes)).reply) e ∙ keeps_fine a held (kept unit a.length (length held) bytes)
+
+part_fine : (unit : ℕ) (bytes : List ℕ) (a : Announcement) (o : ℕ) (u : Upload) → o + length bytes ≤ a.length → Is a o u → is_error (part_of unit bytes (Some u)).reply ≡ false
+part_fine unit bytes a o u le is =
+    let e : u.announcement.length ≡ a.length = ap (λ (x : Announcement). x.length) is.announcement in
+    let f : length u.accepted ≡ o = is.offset in
+    takes_fine unit u.announcement u.accepted bytes (grind (arith, nat_tests, le, e, f))
+
+pub parts_fine : OneSide → (known : Known) (a : Announcement) (o unit : ℕ) (bytes : List ℕ) (x : Option (List ℕ)) → known.upload ≡ Some (record { announcement = a; offset = o }) → o + length bytes ≤ a.length
+    → IfSome x (Says known) → NoRefusal known.layout (parting unit bytes) x
+parts_fine one known a o unit bytes x e le says = IfSome-map (Says known) (λ held. (side : Side) → SideStands known.layout side held → is_error (part_of unit bytes side.upload).reply ≡ false) x
+    (λ u s side stands.
+        let k : Knows known side = says_knows one known side u s stands in
+        upload_cases (λ up. is_error (part_of unit bytes up).reply ≡ false) a o side.upload (λ v is. part_fine unit bytes a o v le is) (sym e ∙ k.upload)) says
+
 -- what an upload's call lost
 pub lost_Answers : (layout : Layout) (n : ℕ) (respond : Side → SideResponse) (lost : Lost) (handed : Handed) (a b : FlashState) → lost.state.layout ≡ layout
     → Broken lost.state.layout lost.fault handed → Moved layout (upload_spots layout) n (steps_by respond) (upload_fault_end lost.fault) a b
-    → IfSome a.bytes (SideReadable layout) → Caused layout n lost.fault a.bytes → Answers layout n respond handed a b
-lost_Answers layout n respond lost handed a b e broken m r c =
+    → IfSome a.bytes (SideReadable layout) → Caused layout n lost.fault a.bytes → NoRefusal layout respond a.bytes → Answers layout n respond handed a b
+lost_Answers layout n respond lost handed a b e broken m r c t =
     broken_off layout n respond handed lost.fault a b (subst (λ (l : Layout). Broken l lost.fault handed) e broken)
-    (Moved-wider layout (mount_spots layout) (upload_spots layout) n (steps_by respond) (upload_fault_end lost.fault) a b (upload_covers layout) m) r c
+    (Moved-wider layout (mount_spots layout) (upload_spots layout) n (steps_by respond) (upload_fault_end lost.fault) a b (upload_covers layout) m) r c t
 
 tells_said : (layout : Layout) (respond : Side → SideResponse) (reply : Reply) (s : Said) (x : Option (List ℕ)) → said_of reply ≡ s
     → IfSome x (λ held. (side : Side) → SideStands layout side held → s ≡ (respond side).reply) → Tells layout respond x reply
@@ -214,6 +250,7 @@ call_done layout n respond s m k reply handed a b e r h l done says tells =
       layout_kept = ap (λ (x : Known). x.layout) e ∙ l;
       mounted = refl;
       caused = tt;
+      tried = tt;
     } in
     subst (λ (x : Handed). Answers layout n respond x a b) (sym h) here
 
@@ -260,6 +297,11 @@ begin_chosen layout l a bytes handed x y z le e done answers =
     (answers_after layout 1 2 (one_step (Choose a)) (parting unit bytes) handed x y z
     (Done-wider layout (mount_spots layout) (upload_spots layout) 1 (one_step (Choose a)) x y (upload_covers layout) done) here)
 
+begun_fine : (layout : Layout) (unit : ℕ) (a : Announcement) (bytes : List ℕ) (x : Option (List ℕ)) → nat_lt a.length (0 + length bytes) ≡ false
+    → NoRefusal layout (responds_after (one_step (Choose a)) (parting unit bytes)) x
+begun_fine layout unit a bytes None e = tt
+begun_fine layout unit a bytes (Some u) e = λ side stands. takes_fine unit a [] bytes e
+
 -- the choice was broken off
 pub begin_lost : (layout : Layout) (a : Announcement) (bytes : List ℕ) (lost : Lost) (handed : Handed) (x y : FlashState) → length bytes ≤ a.length → lost.state.layout ≡ layout
     → Broken lost.state.layout lost.fault handed → Moved layout (upload_spots layout) 1 (one_step (Choose a)) (upload_fault_end lost.fault) x y
@@ -267,8 +309,9 @@ pub begin_lost : (layout : Layout) (a : Announcement) (bytes : List ℕ) (lost :
 begin_lost layout a bytes lost handed x y le e broken m r c =
     let unit = (geometry_of layout).unit in
     let s = responds_after (one_step (Choose a)) (parting unit bytes) in
+    let b : nat_lt a.length (0 + length bytes) ≡ false = grind (arith, nat_tests, le) in
     answers_as layout 3 s (beginning unit a bytes) handed x y (same_begun layout unit a bytes x.bytes le)
-    (lost_Answers layout 3 s lost handed x y e broken (Moved-first layout (upload_spots layout) 1 3 (one_step (Choose a)) (steps_by (parting unit bytes)) (upload_fault_end lost.fault) x y (omega arith) m) r c)
+    (lost_Answers layout 3 s lost handed x y e broken (Moved-first layout (upload_spots layout) 1 3 (one_step (Choose a)) (steps_by (parting unit bytes)) (upload_fault_end lost.fault) x y (omega arith) m) r c (begun_fine layout unit a bytes x.bytes b))
 
 -- Starts and parts over a mounted side.
 

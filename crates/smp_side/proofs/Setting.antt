@@ -20,7 +20,7 @@ use Rattle.smp_model.specs.Image.{good_image}
 use Rattle.smp_model.specs.ImageGroup.{active_entry, second_entry, pair_of, no_image, erase_of, marks, confirms, same_mark}
 use Rattle.smp_model.specs.Response.{SideResponse, side_responds}
 use Rattle.smp_model.specs.Said as said
-use Rattle.smp_model.specs.Said.{Said}
+use Rattle.smp_model.specs.Said.{Said, is_error}
 use Rattle.smp_model.specs.Sides.{SideStep, Drop, MarkPending, Confirm}
 use Rattle.smp_model.specs.Uploads.{uploaded_image}
 use Rattle.smp_upload.specs.Bytes.{SideStands, SideReadable, active_in, confirmed_in}
@@ -44,7 +44,7 @@ use Rattle.smp_side.specs.Held.{steps_by, Answers, Broken, Caused, response_of}
 use Rattle.smp_side.specs.Listing.{IsPair}
 use Rattle.smp_side.specs.declared.held.Held.TheVariants as helds
 use Rattle.smp_side.specs.declared.held.Handed.{Handed}
-use Rattle.smp_side.proofs.Answering.{Idles, Done-none, Moved-none, Moved-more, Done-more, Plain, Same, answered, answered_then, answers_after, answers_as, broken_off, readable_says, slot_end, slot_caused, both_some}
+use Rattle.smp_side.proofs.Answering.{Idles, Done-none, Moved-none, Moved-more, Done-more, Plain, Same, answered, answered_then, answers_after, answers_as, broken_off, readable_says, slot_end, slot_caused, both_some, NoRefusal}
 use Rattle.smp_side.proofs.Parting.{call_done, lost_Answers, offers}
 
 -- Erases.
@@ -64,6 +64,10 @@ dropped_says : (layout : Layout) (x : Option (List ℕ)) → IfSome x (λ held. 
 dropped_says layout None = tt
 dropped_says layout (Some u) = λ side stands. refl
 
+dropping_fine : (layout : Layout) (x : Option (List ℕ)) → NoRefusal layout dropping x
+dropping_fine layout None = tt
+dropping_fine layout (Some u) = λ side stands. refl
+
 pub erase_done : OneSide → (known : Known) (mounted : Mounted) (idle : Idle) (k : ℕ) (handed : Handed) (a b : FlashState) → known ≡ known_mounted mounted → known.pending ≡ None → k ≤ 1
     → handed ≡ record { held = helds.Mounted (mounts.Idle idle); result = Ok replied.Empty } → idle.layout ≡ known.layout → IfSome a.bytes (Says known)
     → Done known.layout (upload_spots known.layout) k (one_step Drop) a b → IfSome b.bytes (Says (known_idle idle)) → Answers (known_mounted mounted).layout 1 erasing handed a b
@@ -79,7 +83,7 @@ pub erase_lost : OneSide → (known : Known) (mounted : Mounted) (k : ℕ) (lost
 erase_lost one known mounted k lost handed a b e free le l broken m says c =
     subst (λ (x : Known). Answers x.layout 1 erasing handed a b) e
     (answers_as known.layout 1 dropping erasing handed a b (same_free one known a.bytes free says)
-    (lost_Answers known.layout 1 dropping lost handed a b l broken (Moved-more known.layout (upload_spots known.layout) k 1 (one_step Drop) (upload_fault_end lost.fault) a b le m) (readable_says known a.bytes says) c))
+    (lost_Answers known.layout 1 dropping lost handed a b l broken (Moved-more known.layout (upload_spots known.layout) k 1 (one_step Drop) (upload_fault_end lost.fault) a b le m) (readable_says known a.bytes says) c (dropping_fine known.layout a.bytes)))
 
 plain_pending : OneSide → (known : Known) (mark : Mark) (respond : Option Mark → SideResponse) (reply : Said) (bytes : List ℕ) → known.pending ≡ Some mark → respond (Some mark) ≡ offers reply → Says known bytes
     → Plain known.layout (λ side. respond side.pending) reply bytes
@@ -109,6 +113,10 @@ marked_says : (layout : Layout) (mark : Mark) (x : Option (List ℕ)) → IfSome
 marked_says layout mark None = tt
 marked_says layout mark (Some u) = λ side stands. refl
 
+marked_fine : (layout : Layout) (mark : Mark) (x : Option (List ℕ)) → NoRefusal layout (marked mark) x
+marked_fine layout mark None = tt
+marked_fine layout mark (Some u) = λ side stands. refl
+
 pub mark_done : OneSide → (known : Known) (mounted : Mounted) (pending : Pending) (mark : Mark) (handed : Handed) (a b : FlashState) → known ≡ known_mounted mounted → known.pending ≡ None
     → handed ≡ record { held = helds.Mounted (mounts.Pending pending); result = Ok replied.Empty } → pending.layout ≡ known.layout → IfSome a.bytes (Says known)
     → Done known.layout (upload_spots known.layout) 0 (one_step (MarkPending mark)) a b → IfSome b.bytes (Says (known_pending pending)) → Answers (known_mounted mounted).layout 0 (marking mark) handed a b
@@ -123,7 +131,7 @@ pub mark_lost : OneSide → (known : Known) (mounted : Mounted) (mark : Mark) (l
 mark_lost one known mounted mark lost handed a b e free l broken m says c =
     subst (λ (x : Known). Answers x.layout 0 (marking mark) handed a b) e
     (answers_as known.layout 0 (marked mark) (marking mark) handed a b (same_marked one known mark a.bytes free says)
-    (lost_Answers known.layout 0 (marked mark) lost handed a b l broken m (readable_says known a.bytes says) c))
+    (lost_Answers known.layout 0 (marked mark) lost handed a b l broken m (readable_says known a.bytes says) c (marked_fine known.layout mark a.bytes)))
 
 -- a fault of a call that needs no record
 pub never_worn : (known : Known) (fault : UploadFault) (x : Option (List ℕ)) → (fault ≡ faults.Unformatted → ⊥) → (fault ≡ faults.Worn → ⊥) → Caused known.layout 0 fault x
@@ -200,12 +208,13 @@ active_Calls : (layout l : Layout) (end : End) (a b : FlashState) → layout ≡
 active_Calls layout l end a b e calls = subst (λ (k : Layout). Calls (mount_spots k) end a b) e (primary_Calls layout end a b calls)
 
 pub read_broken : (known : Known) (layout : Layout) (n : ℕ) (respond : Side → SideResponse) (handed : Handed) (fault : CallFault) (a b : FlashState)
-    → layout ≡ known.layout → IfSome a.bytes (Says known) → Calls (area_spot (slot_of layout 0) ∷ []) (fault_end fault) a b → b.bytes ≡ a.bytes → Broken layout (of_call fault) handed → Answers known.layout n respond handed a b
-read_broken known layout n respond handed fault a b e says calls kept broken =
+    → layout ≡ known.layout → IfSome a.bytes (Says known) → Calls (area_spot (slot_of layout 0) ∷ []) (fault_end fault) a b → b.bytes ≡ a.bytes → Broken layout (of_call fault) handed
+    → NoRefusal known.layout respond a.bytes → Answers known.layout n respond handed a b
+read_broken known layout n respond handed fault a b e says calls kept broken t =
     broken_off known.layout n respond handed (of_call fault) a b (subst (λ (l : Layout). Broken l (of_call fault) handed) e broken)
     (Moved-none known.layout (mount_spots known.layout) n (steps_by respond) (upload_fault_end (of_call fault)) a b
       (subst (λ (end : End). Calls (mount_spots known.layout) end a b) (slot_end fault) (active_Calls layout known.layout (fault_end fault) a b e calls)) kept)
-    (readable_says known a.bytes says) (slot_caused known.layout n fault a.bytes)
+    (readable_says known a.bytes says) (slot_caused known.layout n fault a.bytes) t
 
 pub confirm_refused : OneSide → (m : Mounted) (confirm : Bool) (handed : Handed) (a : FlashState) → confirm ≡ false → handed ≡ record { held = helds.Mounted m; result = Ok (replied.GroupError 1 33) } → IfSome a.bytes (Says (known_mounted m))
     → Answers (known_mounted m).layout 0 (confirming confirm) handed a a
@@ -259,6 +268,19 @@ still_says : (known : Known) (layout : Layout) (x y z : Option (List ℕ)) → l
 still_says known layout x y z e kept says f =
     Told-after (Says known) (SaysOn layout) (Says known) y z (λ u v s g. g known (sym e) s) (IfSome-same (Says known) x y kept says) f
 
+confirmed_fine : (layout : Layout) (x : Option (List ℕ)) → NoRefusal layout confirmed_now x
+confirmed_fine layout None = tt
+confirmed_fine layout (Some u) = λ side stands. refl
+
+-- a confirmation that is asked for is not refused
+confirms_fine : (confirmed : Bool) → is_error (response_of (confirms true confirmed)).reply ≡ false
+confirms_fine true = refl
+confirms_fine false = refl
+
+pub confirming_fine : (layout : Layout) (confirm : Bool) (x : Option (List ℕ)) → confirm ≡ true → NoRefusal layout (confirming confirm) x
+confirming_fine layout confirm None e = tt
+confirming_fine layout confirm (Some u) e = λ side stands. ap (λ (c : Bool). is_error (response_of (confirms c side.confirmed)).reply) e ∙ confirms_fine side.confirmed
+
 confirmed_says : (layout : Layout) (x : Option (List ℕ)) → IfSome x (λ held. (side : Side) → SideStands layout side held → said.empty ≡ (confirmed_now side).reply)
 confirmed_says layout None = tt
 confirmed_says layout (Some u) = λ side stands. refl
@@ -275,6 +297,7 @@ confirm_here m handed b c h says done =
       layout_kept = refl;
       mounted = refl;
       caused = tt;
+      tried = tt;
     } in
     subst (λ (x : Handed). Answers l 0 confirmed_now x b c) (sym h) here
 
@@ -305,4 +328,4 @@ confirm_failed one m layout confirm confirmed fault handed a b c e f lay says ca
     answers_as l 0 confirmed_now (confirming confirm) handed a c (same_set layout l confirm confirmed false (side_responds said.empty (Confirm ∷ [])) a.bytes lay e f refl is)
     (broken_off l 0 confirmed_now handed (of_call fault) a c (subst (λ (k : Layout). Broken k (of_call fault) handed) lay broken)
     (subst (λ (end : End). Moved l (mount_spots l) 0 (steps_by confirmed_now) end a c) (slot_end fault) all)
-    (readable_says known a.bytes says) (slot_caused l 0 fault a.bytes))
+    (readable_says known a.bytes says) (slot_caused l 0 fault a.bytes) (confirmed_fine l a.bytes))

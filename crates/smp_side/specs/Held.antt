@@ -8,7 +8,7 @@ use Rattle.smp_gate.specs.Newest.{newest_generation}
 use Rattle.smp_model.specs.declared.device.Side.{Side}
 use Rattle.smp_model.specs.declared.reply.Reply.{Reply}
 use Rattle.smp_model.specs.Response.{SideResponse, side_responds}
-use Rattle.smp_model.specs.Said.{said_of}
+use Rattle.smp_model.specs.Said.{said_of, is_error}
 use Rattle.smp_model.specs.Said as said
 use Rattle.smp_model.specs.ImageGroup.{refuses_part}
 use Rattle.smp_model.specs.Sides.{SideStep, side_applied}
@@ -76,6 +76,11 @@ abbrev pub ResultCaused : Layout → ℕ → Result Reply UploadFault → Option
 ResultCaused layout n (Ok reply) x = Unit {0}
 ResultCaused layout n (Err fault) x = Caused layout n fault x
 
+-- what was broken off by a fault was no refusal: those need no operation of the flash
+abbrev pub Tried : Layout → (Side → SideResponse) → Result Reply UploadFault → Option (List ℕ) → Type 0
+Tried layout respond (Ok reply) x = Unit {0}
+Tried layout respond (Err fault) x = IfSome x (λ held. (side : Side) → SideStands layout side held → is_error (respond side).reply ≡ false)
+
 -- A request about a mounted side was answered by this response, or was broken off. It is mounted afterwards exactly where it was
 -- answered.
 pub record Answers (layout : Layout) (n : ℕ) (respond : Side → SideResponse) (handed : Handed) (a b : FlashState) : Type 0 where
@@ -86,6 +91,7 @@ pub record Answers (layout : Layout) (n : ℕ) (respond : Side → SideResponse)
   pub layout_kept : held_layout handed.held ≡ layout
   pub mounted : is_mounted handed.held ≡ is_ok handed.result
   pub caused : ResultCaused layout n handed.result a.bytes
+  pub tried : Tried layout respond handed.result a.bytes
 
 -- What a request hands back that was broken off by a fault: the side is not mounted.
 pub record Broken (layout : Layout) (fault : UploadFault) (handed : Handed) : Type 0 where

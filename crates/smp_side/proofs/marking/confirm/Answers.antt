@@ -1,5 +1,5 @@
 use Rattle.smp_upload.specs.States.{known_mounted}
-use Rattle.smp_side.proofs.Setting.{read_broken, confirm_refused, confirm_already, confirm_done, confirm_failed, confirming}
+use Rattle.smp_side.proofs.Setting.{read_broken, confirm_refused, confirm_already, confirm_done, confirm_failed, confirming, confirming_fine}
 use Rattle.smp_side.proofs.marking.confirm.Goals as goal
 
 pub returns-then-not-confirm : goal.returns-then-not-confirm
@@ -9,6 +9,7 @@ returns-then-not-confirm g c =
 pub returns-in-Err : goal.returns-in-Err
 returns-in-Err g c =
     read_broken (known_mounted c.args.mounted) c.layout_of-layout.result 0 (confirming c.args.confirm) c.broken.result c.in-Err.fault (g.F.Flash.state c.args.flash.now) (g.F.Flash.state c.is_confirmed.new.flash) c.layout_of-layout.ensures c.requires.says c.in-Err.ensures.calls c.in-Err.ensures.kept c.broken.ensures
+    (confirming_fine (known_mounted c.args.mounted).layout c.args.confirm (g.F.Flash.state c.args.flash.now).bytes c.if-not-confirm.false)
 
 pub returns-then-confirmed : goal.returns-then-confirmed
 returns-then-confirmed g c =

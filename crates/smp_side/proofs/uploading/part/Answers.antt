@@ -4,7 +4,7 @@ use Rattle.smp_upload.specs.Needs.{chunk_records}
 use Rattle.smp_upload.specs.States.{known_receiving}
 use Rattle.smp_upload.specs.declared.states.Mounted.TheVariants as mounts
 use Rattle.smp_side.proofs.Answering.{caused_by, readable_says}
-use Rattle.smp_side.proofs.Parting.{chunk_least, part_refused, part_stored, lost_Answers, parting}
+use Rattle.smp_side.proofs.Parting.{chunk_least, part_refused, part_stored, lost_Answers, parting, parts_fine}
 use Rattle.smp_side.proofs.uploading.part.Goals as goal
 
 pub returns-then-bytes-length : goal.returns-then-bytes-length
@@ -24,3 +24,5 @@ returns-in-Err g c =
     c.in-Err.ensures.lost c.lost.ensures c.in-Err.ensures.moved (readable_says (known_receiving c.args.state) (g.F.Flash.state c.args.flash.now).bytes c.requires.says)
     (caused_by c.bank_says_what_stands.ensures.generation (known_receiving c.args.state) (chunk_records (geometry_of c.args.state.layout).unit (record { announcement = c.args.state.announcement; offset = c.args.state.offset }) c.args.bytes.now) 2 c.in-Err.fault.fault (g.F.Flash.state c.args.flash.now).bytes c.requires.says c.in-Err.ensures.formatted c.in-Err.ensures.worn
     (chunk_least (geometry_of c.args.state.layout).unit (record { announcement = c.args.state.announcement; offset = c.args.state.offset }) c.args.bytes.now))
+    (let below = c.args.state.below in let fits = c.if-bytes-length.false in
+    parts_fine c.sides_are_told_apart.ensures (known_receiving c.args.state) c.args.state.announcement c.args.state.offset (geometry_of c.args.state.layout).unit c.args.bytes.now (g.F.Flash.state c.args.flash.now).bytes refl (omega (arith, below, fits)) c.requires.says)
