@@ -1,0 +1,54 @@
+-- What a request about one image is, and the device's response to it.
+use Rattle.std.specs.Prelude.{ℕ, ◌+◌, ◌≤◌, length, List, [], ◌∷◌, Option, Some, None, option_map, Result, Ok, Err}
+use Rattle.smp_flash.specs.Geometry.{slot_size}
+use Rattle.smp_flash.specs.declared.geometry.Geometry.{Geometry}
+use Rattle.smp_model.specs.declared.reply.Reply.{Reply}
+use Rattle.smp_model.specs.declared.reply.Reply.TheVariants as replied
+use Rattle.smp_upload.specs.declared.states.UploadFault.{UploadFault}
+use Rattle.smp_model.specs.declared.device.AbstractDevice.{AbstractDevice}
+use Rattle.smp_model.specs.declared.device.Side.{Side}
+use Rattle.smp_model.specs.declared.error.TheConstants.{INVALID_SLOT}
+use Rattle.smp_model.specs.ImageGroup.{start_at, part_at, erase_of, aims, refuses_image}
+use Rattle.smp_model.specs.Response.{Response, SideResponse, settling_side}
+use Rattle.smp_model.specs.Said.{Said}
+use Rattle.smp_model.specs.Sides.{side_settle}
+use Rattle.smp_model.specs.Steps.{Step, side_at}
+use Rattle.smp_device.specs.declared.images.SideRequest.{SideRequest}
+use Rattle.smp_device.specs.declared.images.SideRequest.TheVariants as asks
+
+-- what the side does, where it is settled
+abbrev pub side_response : (unit : ℕ) → SideRequest → Side → SideResponse
+side_response unit (asks.Start a bytes) side = start_at unit a bytes.now side.pending side.upload
+side_response unit (asks.Part off tag bytes) side = part_at unit off (option_map (λ t. t.now) tag) bytes.now side.upload
+side_response unit asks.Erase side = erase_of side.pending
+
+-- what comes between the settling of the side and that: a start that is answered with an offset moves the target
+abbrev pub between : SideRequest → (image : ℕ) → Said → List Step
+between (asks.Start a bytes) image reply = aims image reply
+between (asks.Part off tag bytes) image reply = []
+between asks.Erase image reply = []
+
+-- the response of the device that has the side, and of one that has no such image
+abbrev pub responds_of : (unit : ℕ) → SideRequest → (image : ℕ) → Option Side → Response
+responds_of unit request image None = refuses_image INVALID_SLOT
+responds_of unit request image (Some s) =
+    settling_side image s (between request image (side_response unit request (side_settle s)).reply) (side_response unit request (side_settle s))
+
+abbrev pub responds_on : (unit : ℕ) → SideRequest → (image : ℕ) → AbstractDevice → Response
+responds_on unit request image d = responds_of unit request image (side_at image d)
+
+-- the start has the bytes of a header, and announces what a slot has room for
+abbrev pub IsStart : Geometry → SideRequest → Type 0
+IsStart g (asks.Start a bytes) = (32 ≤ length bytes.now) × (a.length + g.page ≤ slot_size g)
+IsStart g (asks.Part off tag bytes) = Unit {0}
+IsStart g asks.Erase = Unit {0}
+
+-- the target after a request that came to a mounted side
+abbrev pub target_by : (target image : ℕ) → Result Reply UploadFault → ℕ
+target_by target image (Ok (replied.GroupError group number)) = target
+target_by target image r = image
+
+abbrev pub moved_target : (target image : ℕ) → SideRequest → Result Reply UploadFault → ℕ
+moved_target target image (asks.Start a bytes) r = target_by target image r
+moved_target target image (asks.Part off tag bytes) r = target
+moved_target target image asks.Erase r = target

@@ -1,0 +1,9 @@
+//! The device that is managed, over a flash that may be cut or fail. So far: the requests about one of its images.
+#![tactic(auto)]
+
+mod images;
+mod laws;
+mod side_requests;
+
+pub use images::{Images, Replied, SideRequest};
+pub use side_requests::ask_image;

@@ -1,0 +1,170 @@
+//! A request about one image, over the device's images.
+
+ghost use Rattle.std.specs.Prelude.{◌≡◌, ◌+◌, ◌≤◌, ℕ, Err, IfErr, IfSome, length};
+ghost use Rattle.smp_flash.specs.Geometry.{slot_size};
+ghost use Rattle.smp_flash.specs.Layout.{geometry_of};
+ghost use Rattle.smp_model.specs.Said.{said_of};
+ghost use Rattle.smp_upload.specs.States.{Says, known_mounted};
+ghost use Rattle.smp_side.specs.Held.{Answers};
+ghost use Rattle.smp_device.specs.Answers.{ImagesAnswer};
+ghost use Rattle.smp_device.specs.Places.{ArePlaces, ImagesSay, places_of};
+ghost use Rattle.smp_device.specs.Requests.{IsStart, moved_target, responds_on, side_response};
+
+use crate::images::{Images, Replied, SideRequest};
+use crate::laws::side_laws;
+use smp_flash::Flash;
+use smp_model::Reply;
+use smp_model::error::{IMAGE_GROUP, INVALID_SLOT};
+use smp_side::{Handed, erase, lost, mounted, part_at, start};
+use smp_upload::{Mounted, UploadFault, sides_are_told_apart};
+
+/// What a mounted side does.
+fn ask_side<F: Flash>(mounted: Mounted, flash: &mut F, request: &SideRequest<'_>) -> Handed
+    requires layout { geometry_of (known_mounted mounted).layout ≡ (F.state flash.old).geometry }
+    requires says { IfSome (F.state flash.old).bytes (Says (known_mounted mounted)) }
+    requires start { IsStart (geometry_of (known_mounted mounted).layout) request.now }
+    ensures { Answers (known_mounted mounted).layout 3 (side_response (geometry_of (known_mounted mounted).layout).unit request.now) result (F.state flash.old) (F.state flash.new) }
+{
+    match *request {
+        SideRequest::Start {
+            announcement,
+            bytes,
+        } => start(mounted, flash, &announcement, bytes),
+        SideRequest::Part { off, tag, bytes } => part_at(mounted, flash, off, tag, bytes),
+        SideRequest::Erase => erase(mounted, flash),
+    }
+}
+
+/// The target after a request that came to a mounted side: a start that was not refused moves it.
+fn target_after(
+    target: u32,
+    image: u32,
+    request: &SideRequest<'_>,
+    answer: &Result<Reply<'static>, UploadFault>,
+) -> u32
+    ensures { result ≡ moved_target target image request.now answer.now }
+{
+    match request {
+        SideRequest::Start { .. } => match answer {
+            Ok(Reply::GroupError { .. }) => target,
+            _ => image,
+        },
+        _ => target,
+    }
+}
+
+/// A request about image 0.
+fn ask_zero<F: Flash>(images: Images, flash: &mut F, request: &SideRequest<'_>) -> Replied
+    requires places { ArePlaces (F.state flash.old).geometry (places_of images) }
+    requires says { IfSome (F.state flash.old).bytes (ImagesSay images) }
+    requires start { IsStart (F.state flash.old).geometry request.now }
+    ensures { ImagesAnswer (places_of images) 5 images.target (responds_on (F.state flash.old).geometry.unit request.now 0) result.images result.result (F.state flash.old) (F.state flash.new) }
+{
+    side_laws();
+    sides_are_told_apart();
+    let Images { zero, one, target } = images;
+    match mounted(zero, flash) {
+        Err(fault) => {
+            let handed = lost(fault);
+            Replied {
+                images: Images {
+                    zero: handed.held,
+                    one,
+                    target,
+                },
+                result: handed.result,
+            }
+        }
+        Ok(side) => {
+            let handed = ask_side(side, flash, request);
+            let target = target_after(target, 0, request, &handed.result);
+            Replied {
+                images: Images {
+                    zero: handed.held,
+                    one,
+                    target,
+                },
+                result: handed.result,
+            }
+        }
+    }
+}
+
+/// A request about image 1, or the refusal where there is none.
+fn ask_one<F: Flash>(images: Images, flash: &mut F, request: &SideRequest<'_>) -> Replied
+    requires places { ArePlaces (F.state flash.old).geometry (places_of images) }
+    requires says { IfSome (F.state flash.old).bytes (ImagesSay images) }
+    requires start { IsStart (F.state flash.old).geometry request.now }
+    ensures { ImagesAnswer (places_of images) 5 images.target (responds_on (F.state flash.old).geometry.unit request.now 1) result.images result.result (F.state flash.old) (F.state flash.new) }
+{
+    side_laws();
+    sides_are_told_apart();
+    let Images { zero, one, target } = images;
+    match one {
+        None => no_image(Images {
+            zero,
+            one: None,
+            target,
+        }),
+        Some(held) => match mounted(held, flash) {
+            Err(fault) => {
+                let handed = lost(fault);
+                Replied {
+                    images: Images {
+                        zero,
+                        one: Some(handed.held),
+                        target,
+                    },
+                    result: handed.result,
+                }
+            }
+            Ok(side) => {
+                let handed = ask_side(side, flash, request);
+                let target = target_after(target, 1, request, &handed.result);
+                Replied {
+                    images: Images {
+                        zero,
+                        one: Some(handed.held),
+                        target,
+                    },
+                    result: handed.result,
+                }
+            }
+        },
+    }
+}
+
+/// There is no such image.
+fn no_image(images: Images) -> Replied
+    ensures { result ≡ record { images = images; result = Ok (Reply.GroupError 1 14) } }
+{
+    Replied {
+        images,
+        result: Ok(Reply::GroupError {
+            group: IMAGE_GROUP,
+            number: INVALID_SLOT,
+        }),
+    }
+}
+
+/// A request about one image: its side is mounted where it is not, and then asked. An image that the device does not have is
+/// refused.
+pub fn ask_image<F: Flash>(
+    images: Images,
+    flash: &mut F,
+    image: u32,
+    request: &SideRequest<'_>,
+) -> Replied
+    requires places { ArePlaces (F.state flash.old).geometry (places_of images) }
+    requires says { IfSome (F.state flash.old).bytes (ImagesSay images) }
+    requires start { IsStart (F.state flash.old).geometry request.now }
+    ensures { ImagesAnswer (places_of images) 5 images.target (responds_on (F.state flash.old).geometry.unit request.now image) result.images result.result (F.state flash.old) (F.state flash.new) }
+{
+    if image == 0 {
+        return ask_zero(images, flash, request);
+    }
+    if image == 1 {
+        return ask_one(images, flash, request);
+    }
+    no_image(images)
+}
