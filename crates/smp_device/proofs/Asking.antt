@@ -196,7 +196,7 @@ lost_one laws images old o request lost handed a b are e says broken m c =
 
 -- No such image.
 
-no_side : (i : ℕ) (p : Places) (d : AbstractDevice) (bytes : List ℕ) (x : Option Layout) (y : Option Side) → x ≡ None → StandsAt x y bytes → y ≡ None
+pub no_side : (i : ℕ) (p : Places) (d : AbstractDevice) (bytes : List ℕ) (x : Option Layout) (y : Option Side) → x ≡ None → StandsAt x y bytes → y ≡ None
 no_side i p d bytes None None e s = refl
 no_side i p d bytes None (Some side) e s = absurd s
 no_side i p d bytes (Some l) y e s = absurd (cc e)
@@ -205,11 +205,11 @@ no_side i p d bytes (Some l) y e s = absurd (cc e)
 pub none_responds : (unit : ℕ) (request : SideRequest) (i t : ℕ) (p : Places) (d : AbstractDevice) (bytes : List ℕ) → place_at i p ≡ None → ImagesStand p t d bytes → responds_on unit request i d ≡ reply_alone (said.group_error 1 14)
 none_responds unit request i t p d bytes e stands = ap (λ (o : Option Side). responds_of unit request i o) (no_side i p d bytes (place_at i p) (side_at i d) e (stands.sides i))
 
-told_here : (R : List ℕ → List ℕ → Type 0) (x : Option (List ℕ)) → ((u : List ℕ) → R u u) → Told R x x
+pub told_here : (R : List ℕ → List ℕ → Type 0) (x : Option (List ℕ)) → ((u : List ℕ) → R u u) → Told R x x
 told_here R None f = tt
 told_here R (Some u) f = f u
 
-told_alone : (P : List ℕ → Type 0) (x : Option (List ℕ)) → ((u : List ℕ) → P u) → IfSome x P
+pub told_alone : (P : List ℕ → Type 0) (x : Option (List ℕ)) → ((u : List ℕ) → P u) → IfSome x P
 told_alone P None f = tt
 told_alone P (Some u) f = f u
 

@@ -1,3 +1,4 @@
 pub mod Parting
 pub mod Lifting
 pub mod Asking
+pub mod Fields

@@ -2,3 +2,4 @@ pub mod Places
 pub mod Requests
 pub mod Answers
 pub mod Laws
+pub mod Uploads

@@ -4,6 +4,8 @@
 mod images;
 mod laws;
 mod side_requests;
+mod uploads;
 
 pub use images::{Images, Replied, SideRequest};
 pub use side_requests::ask_image;
+pub use uploads::{erase, upload};
