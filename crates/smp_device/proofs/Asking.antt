@@ -42,21 +42,21 @@ use Rattle.smp_device.proofs.Parting.{apart_of, is_second}
 
 -- What is held of an image says what it said, where changes keep clear of it.
 
-held_kept : Laws → (h : Held) (spots : List (ℕ × ℕ)) (u v : List ℕ) → Apart (held_layout h) spots → Keeps spots u v → HeldSays h u → HeldSays h v
+pub held_kept : Laws → (h : Held) (spots : List (ℕ × ℕ)) (u v : List ℕ) → Apart (held_layout h) spots → Keeps spots u v → HeldSays h u → HeldSays h v
 held_kept laws (helds.Unmounted n) spots u v apart k s = record { side = s.side; stands = laws.stand n.layout s.side spots u v apart k s.stands }
 held_kept laws (helds.Mounted m) spots u v apart k s = laws.say (known_mounted m) spots u v apart k s
 
-other_kept : Laws → (o : Option Held) (spots : List (ℕ × ℕ)) (u v : List ℕ) → ((m : Layout) → option_map held_layout o ≡ Some m → Apart m spots) → Keeps spots u v → IfSome o (λ h. HeldSays h u) → IfSome o (λ h. HeldSays h v)
+pub other_kept : Laws → (o : Option Held) (spots : List (ℕ × ℕ)) (u v : List ℕ) → ((m : Layout) → option_map held_layout o ≡ Some m → Apart m spots) → Keeps spots u v → IfSome o (λ h. HeldSays h u) → IfSome o (λ h. HeldSays h v)
 other_kept laws None spots u v apart k s = tt
 other_kept laws (Some h) spots u v apart k s = held_kept laws h spots u v (apart (held_layout h) refl) k s
 
-zero_one : ◌≡◌ {A = ℕ} 0 1 → ⊥
+pub zero_one : ◌≡◌ {A = ℕ} 0 1 → ⊥
 zero_one e = absurd (cc e)
 
-one_zero : ◌≡◌ {A = ℕ} 1 0 → ⊥
+pub one_zero : ◌≡◌ {A = ℕ} 1 0 → ⊥
 one_zero e = absurd (cc e)
 
-zero_says : Laws → (g : Geometry) (images : Images) → ArePlaces g (places_of images) → (held : Held) (t : ℕ) (x y : Option (List ℕ)) → IfSome y (HeldSays held) → IfSome x (ImagesSay images)
+pub zero_says : Laws → (g : Geometry) (images : Images) → ArePlaces g (places_of images) → (held : Held) (t : ℕ) (x y : Option (List ℕ)) → IfSome y (HeldSays held) → IfSome x (ImagesSay images)
     → Told (Keeps (mount_spots (held_layout images.zero))) x y → IfSome y (ImagesSay (record { zero = held; one = images.one; target = t }))
 zero_says laws g images are held t None None h s k = tt
 zero_says laws g images are held t None (Some v) h s k = absurd k
@@ -66,7 +66,7 @@ zero_says laws g images are held t (Some u) (Some v) h s k = record {
   second = other_kept laws images.one (mount_spots (held_layout images.zero)) u v (λ m at. apart_of g (places_of images) are 0 1 (held_layout images.zero) m refl at zero_one) k s.second;
 }
 
-one_says : Laws → (g : Geometry) (images : Images) → ArePlaces g (places_of images) → (old held : Held) → images.one ≡ Some old → (t : ℕ) (x y : Option (List ℕ)) → IfSome y (HeldSays held) → IfSome x (ImagesSay images)
+pub one_says : Laws → (g : Geometry) (images : Images) → ArePlaces g (places_of images) → (old held : Held) → images.one ≡ Some old → (t : ℕ) (x y : Option (List ℕ)) → IfSome y (HeldSays held) → IfSome x (ImagesSay images)
     → Told (Keeps (mount_spots (held_layout old))) x y → IfSome y (ImagesSay (record { zero = images.zero; one = Some held; target = t }))
 one_says laws g images are old held e t None None h s k = tt
 one_says laws g images are old held e t None (Some v) h s k = absurd k
@@ -149,7 +149,7 @@ asked_one laws images old o request layout handed u a b c are e target says done
 
 -- A mount that was lost.
 
-held_readable : (h : Held) (bytes : List ℕ) → HeldSays h bytes → SideReadable (held_layout h) bytes
+pub held_readable : (h : Held) (bytes : List ℕ) → HeldSays h bytes → SideReadable (held_layout h) bytes
 held_readable (helds.Unmounted u) bytes s = s
 held_readable (helds.Mounted m) bytes s = readable_of (known_mounted m) bytes s
 
@@ -157,18 +157,18 @@ unmounted_says : (held : Held) (l : Layout) (bytes : List ℕ) → held_layout h
 unmounted_says (helds.Unmounted u) l bytes e is r = subst (λ (k : Layout). SideReadable k bytes) (sym e) r
 unmounted_says (helds.Mounted m) l bytes e is r = absurd (cc is)
 
-lost_says : (old held : Held) (fault : UploadFault) (a b : FlashState) → held_layout held ≡ held_layout old → is_mounted held ≡ false
+pub lost_says : (old held : Held) (fault : UploadFault) (a b : FlashState) → held_layout held ≡ held_layout old → is_mounted held ≡ false
     → Moved (held_layout old) (mount_spots (held_layout old)) 2 side_settle_steps (upload_fault_end fault) a b → IfSome a.bytes (HeldSays old) → IfSome b.bytes (HeldSays held)
 lost_says old held fault a b e un m s =
     let l = held_layout old in
     IfSome-map (SideReadable l) (HeldSays held) b.bytes (λ u r. unmounted_says held l u e un r)
     (readable_after l (mount_spots l) 2 side_settle_steps (upload_fault_end fault) a b m (IfSome-map (HeldSays old) (SideReadable l) a.bytes (held_readable old) s))
 
-first_says : (images : Images) (x : Option (List ℕ)) → IfSome x (ImagesSay images) → IfSome x (HeldSays images.zero)
+pub first_says : (images : Images) (x : Option (List ℕ)) → IfSome x (ImagesSay images) → IfSome x (HeldSays images.zero)
 first_says images None s = tt
 first_says images (Some u) s = s.first
 
-second_says : (images : Images) (old : Held) (x : Option (List ℕ)) → images.one ≡ Some old → IfSome x (ImagesSay images) → IfSome x (HeldSays old)
+pub second_says : (images : Images) (old : Held) (x : Option (List ℕ)) → images.one ≡ Some old → IfSome x (ImagesSay images) → IfSome x (HeldSays old)
 second_says images old None e s = tt
 second_says images old (Some u) e s = subst (λ (o : Option Held). IfSome o (λ h. HeldSays h u)) e s.second
 

@@ -2,3 +2,5 @@ pub mod Parting
 pub mod Lifting
 pub mod Asking
 pub mod Fields
+pub mod Settlements
+pub mod Listings

@@ -317,7 +317,7 @@ told_moves R S T K P (Some u) None z f a b k q = absurd a
 told_moves R S T K P (Some u) (Some v) None f a b k q = absurd b
 told_moves R S T K P (Some u) (Some v) (Some w) f a b k q = f u v w a b k q
 
-told_two : (R K T : List ℕ → List ℕ → Type 0) (x y : Option (List ℕ)) → ((u v : List ℕ) → R u v → K u v → T u v) → Told R x y → Told K x y → Told T x y
+pub told_two : (R K T : List ℕ → List ℕ → Type 0) (x y : Option (List ℕ)) → ((u v : List ℕ) → R u v → K u v → T u v) → Told R x y → Told K x y → Told T x y
 told_two R K T None None f a b = tt
 told_two R K T None (Some v) f a b = absurd a
 told_two R K T (Some u) None f a b = absurd a

@@ -69,7 +69,7 @@ apart_first first second g a b =
 pub is_second : (g : Geometry) (o : Option Layout) (m : Layout) → IfSome o (λ l. (geometry_of l ≡ g) × (image_of l ≡ 1)) → o ≡ Some m → (geometry_of m ≡ g) × (image_of m ≡ 1)
 is_second g o m f e = subst (λ (x : Option Layout). IfSome x (λ l. (geometry_of l ≡ g) × (image_of l ≡ 1))) e f
 
-some_is : (l m : Layout) → Some l ≡ Some m → l ≡ m
+pub some_is : (l m : Layout) → Some l ≡ Some m → l ≡ m
 some_is l m e = cc e
 
 -- each image's regions lie clear of the other's calls

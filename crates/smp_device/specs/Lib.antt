@@ -3,3 +3,4 @@ pub mod Requests
 pub mod Answers
 pub mod Laws
 pub mod Uploads
+pub mod Settling

@@ -3,9 +3,13 @@
 
 mod images;
 mod laws;
+mod lists;
+mod settled;
 mod side_requests;
 mod uploads;
 
 pub use images::{Images, Replied, SideRequest};
+pub use lists::list;
+pub use settled::Settled;
 pub use side_requests::ask_image;
 pub use uploads::{erase, upload};

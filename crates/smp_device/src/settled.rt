@@ -1,0 +1,74 @@
+//! All images of a device, mounted.
+
+ghost use Rattle.std.specs.Prelude.{◌≡◌, IfErr, IfOk, IfSome, OnOk};
+ghost use Rattle.smp_device.specs.Places.{ArePlaces, ImagesSay, places_of};
+ghost use Rattle.smp_device.specs.Settling.{SettledSay, Settles, Unsettled, settled_places};
+
+use crate::images::{Images, Replied};
+use crate::laws::side_laws;
+use smp_flash::Flash;
+use smp_side::{Held, lost, mounted};
+use smp_upload::{Mounted, sides_are_told_apart};
+
+/// The images of a device, of which all are mounted.
+#[derive(Drop)]
+pub struct Settled {
+    pub zero: Mounted,
+    pub one: Option<Mounted>,
+    pub target: u32,
+}
+
+/// Mounts each image that is not mounted: image 0 first. One whose mount is broken off is not mounted, and the other is as it was
+/// then.
+pub fn settle_all<F: Flash>(images: Images, flash: &mut F) -> Result<Settled, Replied>
+    requires places { ArePlaces (F.state flash.old).geometry (places_of images) }
+    requires says { IfSome (F.state flash.old).bytes (ImagesSay images) }
+    ensures settles { OnOk result (Settles (places_of images) images.target (F.state flash.old) (F.state flash.new)) }
+    ensures says { IfOk result (λ s. IfSome (F.state flash.new).bytes (SettledSay s)) }
+    ensures places { IfOk result (λ s. settled_places s ≡ places_of images) }
+    ensures target { IfOk result (λ s. s.target ≡ images.target) }
+    ensures unsettled { IfErr result (λ r. Unsettled (places_of images) images.target r (F.state flash.old) (F.state flash.new)) }
+{
+    side_laws();
+    sides_are_told_apart();
+    let Images { zero, one, target } = images;
+    let zero = match mounted(zero, flash) {
+        Ok(zero) => zero,
+        Err(fault) => {
+            let handed = lost(fault);
+            return Err(Replied {
+                images: Images {
+                    zero: handed.held,
+                    one,
+                    target,
+                },
+                result: handed.result,
+            });
+        }
+    };
+    match one {
+        None => Ok(Settled {
+            zero,
+            one: None,
+            target,
+        }),
+        Some(held) => match mounted(held, flash) {
+            Ok(side) => Ok(Settled {
+                zero,
+                one: Some(side),
+                target,
+            }),
+            Err(fault) => {
+                let handed = lost(fault);
+                Err(Replied {
+                    images: Images {
+                        zero: Held::Mounted(zero),
+                        one: Some(handed.held),
+                        target,
+                    },
+                    result: handed.result,
+                })
+            }
+        },
+    }
+}
