@@ -1,5 +1,5 @@
 -- What a request about one image is, and the device's response to it.
-use Rattle.std.specs.Prelude.{ℕ, ◌+◌, ◌≤◌, length, List, [], ◌∷◌, Option, Some, None, option_map, Result, Ok, Err}
+use Rattle.std.specs.Prelude.{◌≡◌, ℕ, zero, suc, Bool, ◌+◌, ◌≤◌, length, List, [], ◌∷◌, Option, Some, None, option_map, Result, Ok, Err}
 use Rattle.smp_flash.specs.Geometry.{slot_size}
 use Rattle.smp_flash.specs.declared.geometry.Geometry.{Geometry}
 use Rattle.smp_model.specs.declared.reply.Reply.{Reply}
@@ -13,6 +13,10 @@ use Rattle.smp_model.specs.Response.{Response, SideResponse, settling_side}
 use Rattle.smp_model.specs.Said.{Said}
 use Rattle.smp_model.specs.Sides.{side_settle}
 use Rattle.smp_model.specs.Steps.{Step, side_at}
+use Rattle.smp_side.specs.Held.{is_mounted, is_ok}
+use Rattle.smp_side.specs.declared.held.Held.{Held}
+use Rattle.smp_device.specs.declared.images.Images.{Images}
+use Rattle.smp_device.specs.declared.images.Replied.{Replied}
 use Rattle.smp_device.specs.declared.images.SideRequest.{SideRequest}
 use Rattle.smp_device.specs.declared.images.SideRequest.TheVariants as asks
 
@@ -52,3 +56,14 @@ abbrev pub moved_target : (target image : ℕ) → SideRequest → Result Reply 
 moved_target target image (asks.Start a bytes) r = target_by target image r
 moved_target target image (asks.Part off tag bytes) r = target
 moved_target target image asks.Erase r = target
+
+-- A request about an image leaves it mounted exactly where it was answered, and the other image as it was; one about an image that
+-- is not there leaves all as it was.
+abbrev pub SecondMounted : Option Held → Bool → Type 0
+SecondMounted None answered = Unit {0}
+SecondMounted (Some h) answered = is_mounted h ≡ answered
+
+abbrev pub MountsOf : (image : ℕ) → (before : Images) → Replied → Type 0
+MountsOf zero before r = (is_mounted r.images.zero ≡ is_ok r.result) × (r.images.one ≡ before.one)
+MountsOf (suc zero) before r = (r.images.zero ≡ before.zero) × (SecondMounted r.images.one (is_ok r.result))
+MountsOf (suc (suc n)) before r = r.images ≡ before

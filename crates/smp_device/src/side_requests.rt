@@ -8,7 +8,7 @@ ghost use Rattle.smp_upload.specs.States.{Says, known_mounted};
 ghost use Rattle.smp_side.specs.Held.{Answers};
 ghost use Rattle.smp_device.specs.Answers.{ImagesAnswer};
 ghost use Rattle.smp_device.specs.Places.{ArePlaces, ImagesSay, places_of};
-ghost use Rattle.smp_device.specs.Requests.{IsStart, moved_target, responds_on, side_response};
+ghost use Rattle.smp_device.specs.Requests.{IsStart, MountsOf, moved_target, responds_on, side_response};
 
 use crate::images::{Images, Replied, SideRequest};
 use crate::laws::side_laws;
@@ -58,7 +58,8 @@ fn ask_zero<F: Flash>(images: Images, flash: &mut F, request: &SideRequest<'_>) 
     requires places { ArePlaces (F.state flash.old).geometry (places_of images) }
     requires says { IfSome (F.state flash.old).bytes (ImagesSay images) }
     requires start { IsStart (F.state flash.old).geometry request.now }
-    ensures { ImagesAnswer (places_of images) 5 images.target (responds_on (F.state flash.old).geometry.unit request.now 0) result.images result.result (F.state flash.old) (F.state flash.new) }
+    ensures answers { ImagesAnswer (places_of images) 5 images.target (responds_on (F.state flash.old).geometry.unit request.now 0) result.images result.result (F.state flash.old) (F.state flash.new) }
+    ensures mounts { MountsOf 0 images result }
 {
     side_laws();
     sides_are_told_apart();
@@ -95,7 +96,8 @@ fn ask_one<F: Flash>(images: Images, flash: &mut F, request: &SideRequest<'_>) -
     requires places { ArePlaces (F.state flash.old).geometry (places_of images) }
     requires says { IfSome (F.state flash.old).bytes (ImagesSay images) }
     requires start { IsStart (F.state flash.old).geometry request.now }
-    ensures { ImagesAnswer (places_of images) 5 images.target (responds_on (F.state flash.old).geometry.unit request.now 1) result.images result.result (F.state flash.old) (F.state flash.new) }
+    ensures answers { ImagesAnswer (places_of images) 5 images.target (responds_on (F.state flash.old).geometry.unit request.now 1) result.images result.result (F.state flash.old) (F.state flash.new) }
+    ensures mounts { MountsOf 1 images result }
 {
     side_laws();
     sides_are_told_apart();
@@ -158,7 +160,8 @@ pub fn ask_image<F: Flash>(
     requires places { ArePlaces (F.state flash.old).geometry (places_of images) }
     requires says { IfSome (F.state flash.old).bytes (ImagesSay images) }
     requires start { IsStart (F.state flash.old).geometry request.now }
-    ensures { ImagesAnswer (places_of images) 5 images.target (responds_on (F.state flash.old).geometry.unit request.now image) result.images result.result (F.state flash.old) (F.state flash.new) }
+    ensures answers { ImagesAnswer (places_of images) 5 images.target (responds_on (F.state flash.old).geometry.unit request.now image) result.images result.result (F.state flash.old) (F.state flash.new) }
+    ensures mounts { MountsOf image images result }
 {
     if image == 0 {
         return ask_zero(images, flash, request);

@@ -2,14 +2,14 @@ use Rattle.smp_device.proofs.Asking.{no_image_here, place_above, of_image}
 use Rattle.smp_device.specs.Places.{places_of}
 use Rattle.smp_device.proofs.side_requests.ask_image.Goals as goal
 
-pub returns-then-image-eq0 : goal.returns-then-image-eq0
-returns-then-image-eq0 g c =
-    of_image c.args.images c.args.image 0 c.args.request.now c.ask_zero.result (g.F.Flash.state c.args.flash.now) (g.F.Flash.state c.ask_zero.new.flash) c.if-image-eq0.true c.ask_zero.ensures
+pub returns-then-image-eq0-clause-answers : goal.returns-then-image-eq0-clause-answers
+returns-then-image-eq0-clause-answers g c =
+    of_image c.args.images c.args.image 0 c.args.request.now c.ask_zero.result (g.F.Flash.state c.args.flash.now) (g.F.Flash.state c.ask_zero.new.flash) c.if-image-eq0.true c.ask_zero.ensures.answers
 
-pub returns-then-image-eq1 : goal.returns-then-image-eq1
-returns-then-image-eq1 g c =
-    of_image c.args.images c.args.image 1 c.args.request.now c.ask_one.result (g.F.Flash.state c.args.flash.now) (g.F.Flash.state c.ask_one.new.flash) c.if-image-eq1.true c.ask_one.ensures
+pub returns-then-image-eq1-clause-answers : goal.returns-then-image-eq1-clause-answers
+returns-then-image-eq1-clause-answers g c =
+    of_image c.args.images c.args.image 1 c.args.request.now c.ask_one.result (g.F.Flash.state c.args.flash.now) (g.F.Flash.state c.ask_one.new.flash) c.if-image-eq1.true c.ask_one.ensures.answers
 
-pub returns : goal.returns
-returns g c =
+pub returns-clause-answers : goal.returns-clause-answers
+returns-clause-answers g c =
     no_image_here c.args.images (g.F.Flash.state c.args.flash.now).geometry.unit c.args.request.now c.args.image c.no_image.result (g.F.Flash.state c.args.flash.now) (place_above (places_of c.args.images) c.args.image c.if-image-eq0.false c.if-image-eq1.false) c.requires.says c.no_image.ensures

@@ -12,7 +12,7 @@ use Rattle.smp_device.proofs.uploads.upload_part.Goals as goal
 pub returns-in-Ok : goal.returns-in-Ok
 returns-in-Ok g c =
     images_as (places_of c.args.images) 5 c.args.images.target (responds_on (g.F.Flash.state c.args.flash.now).geometry.unit (asks.Part c.args.part.now.off c.args.part.now.sha c.args.part.now.bytes) c.args.image) (λ d. does (sizes_of (g.F.Flash.state c.args.flash.now).geometry) d (meant.upload c.args.part.now.image c.args.part.now.len c.args.part.now.off (option_map (λ s. s.now) c.args.part.now.sha) c.args.part.now.bytes.now)) c.ask_image.result.images c.ask_image.result.result (g.F.Flash.state c.args.flash.now) (g.F.Flash.state c.ask_image.new.flash)
-    (part_fit (g.F.Flash.state c.args.flash.now).geometry (places_of c.args.images) c.args.images.target c.args.image c.args.part.now.image c.args.part.now.len c.args.part.now.off (option_map (λ s. s.now) c.args.part.now.sha) c.args.part.now.bytes.now (asks.Part c.args.part.now.off c.args.part.now.sha c.args.part.now.bytes) c.requires.meant c.requires.there c.requires.further c.in-Ok.ensures.ok.0 (λ s. refl)) c.ask_image.ensures
+    (part_fit (g.F.Flash.state c.args.flash.now).geometry (places_of c.args.images) c.args.images.target c.args.image c.args.part.now.image c.args.part.now.len c.args.part.now.off (option_map (λ s. s.now) c.args.part.now.sha) c.args.part.now.bytes.now (asks.Part c.args.part.now.off c.args.part.now.sha c.args.part.now.bytes) c.requires.meant c.requires.there c.requires.further c.in-Ok.ensures.ok.0 (λ s. refl)) c.ask_image.ensures.answers
 
 pub returns-in-Err : goal.returns-in-Err
 returns-in-Err g c =
