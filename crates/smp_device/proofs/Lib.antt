@@ -4,3 +4,4 @@ pub mod Asking
 pub mod Fields
 pub mod Settlements
 pub mod Listings
+pub mod Acting

@@ -76,21 +76,21 @@ settle_alone : (d : AbstractDevice) → side_at 1 d ≡ None → settle_of 0 d �
 settle_alone d none =
     ap (λ (o : Option Side). applied (steps_at 1 o) (settle_of 0 d)) (sym none) ∙ sym (applied_append (settle_steps_of 0 d) (settle_steps_of 1 d) d)
 
-reached_more : Laws → (p : Places) (t : ℕ) (d : AbstractDevice) (s r : List Step) (bytes : List ℕ) → ImagesReached p t d s bytes → ImagesReached p t d (s ++ r) bytes
+pub reached_more : Laws → (p : Places) (t : ℕ) (d : AbstractDevice) (s r : List Step) (bytes : List ℕ) → ImagesReached p t d s bytes → ImagesReached p t d (s ++ r) bytes
 reached_more laws p t d s r bytes f = record { reached = f.reached; part = laws.front s r d f.reached f.part; stands = f.stands }
 
-reached_behind : Laws → (p : Places) (t : ℕ) (d : AbstractDevice) (s r : List Step) (bytes : List ℕ) → ImagesReached p t (applied s d) r bytes → ImagesReached p t d (s ++ r) bytes
+pub reached_behind : Laws → (p : Places) (t : ℕ) (d : AbstractDevice) (s r : List Step) (bytes : List ℕ) → ImagesReached p t (applied s d) r bytes → ImagesReached p t d (s ++ r) bytes
 reached_behind laws p t d s r bytes f = record { reached = f.reached; part = laws.behind s r d f.reached f.part; stands = f.stands }
 
 -- Ages, marks and causes of one call and then another.
 
-ages_both : (m n : ℕ) (p : Places) (x y z : Option (List ℕ)) → AtEach (λ l. Told (AgesAtMost m (progress_of l)) x y) p → AtEach (λ l. Told (AgesAtMost n (progress_of l)) y z) p → AtEach (λ l. Told (AgesAtMost (m + n) (progress_of l)) x z) p
+pub ages_both : (m n : ℕ) (p : Places) (x y z : Option (List ℕ)) → AtEach (λ l. Told (AgesAtMost m (progress_of l)) x y) p → AtEach (λ l. Told (AgesAtMost n (progress_of l)) y z) p → AtEach (λ l. Told (AgesAtMost (m + n) (progress_of l)) x z) p
 ages_both m n p x y z f h = λ i l at. Told-trans (AgesAtMost m (progress_of l)) (AgesAtMost n (progress_of l)) (AgesAtMost (m + n) (progress_of l)) x y z (ages_sum l m n) (f i l at) (h i l at)
 
-ages_wider : (m n : ℕ) (p : Places) (x y : Option (List ℕ)) → m ≤ n → AtEach (λ l. Told (AgesAtMost m (progress_of l)) x y) p → AtEach (λ l. Told (AgesAtMost n (progress_of l)) x y) p
+pub ages_wider : (m n : ℕ) (p : Places) (x y : Option (List ℕ)) → m ≤ n → AtEach (λ l. Told (AgesAtMost m (progress_of l)) x y) p → AtEach (λ l. Told (AgesAtMost n (progress_of l)) x y) p
 ages_wider m n p x y le f = λ i l at. Told-map (AgesAtMost m (progress_of l)) (AgesAtMost n (progress_of l)) x y (λ u v. ages_more l m n u v le) (f i l at)
 
-pending_both : (p : Places) (x y z : Option (List ℕ)) → AtEach (λ l. Told (KeepsPending l) x y) p → AtEach (λ l. Told (KeepsPending l) y z) p → AtEach (λ l. Told (KeepsPending l) x z) p
+pub pending_both : (p : Places) (x y z : Option (List ℕ)) → AtEach (λ l. Told (KeepsPending l) x y) p → AtEach (λ l. Told (KeepsPending l) y z) p → AtEach (λ l. Told (KeepsPending l) x z) p
 pending_both p x y z f h = λ i l at. Told-trans (KeepsPending l) (KeepsPending l) (KeepsPending l) x y z (keeps_trans l) (f i l at) (h i l at)
 
 told_none : (R : List ℕ → List ℕ → Type 0) (x y : Option (List ℕ)) → Told R x y → y ≡ None → x ≡ None
@@ -110,7 +110,7 @@ caused_before p m n faults.Worn x y f c = record { image = c.image; layout = c.l
 caused_before p m n (faults.Fault operation) x y f c = tt
 caused_before p m n faults.Off x y f c = tt
 
-result_before : (p : Places) (m n : ℕ) (r : Result Reply UploadFault) (x y : Option (List ℕ)) → AtEach (λ l. Told (AgesAtMost m (progress_of l)) x y) p → ResultCausedIn p n r y → ResultCausedIn p (m + n) r x
+pub result_before : (p : Places) (m n : ℕ) (r : Result Reply UploadFault) (x y : Option (List ℕ)) → AtEach (λ l. Told (AgesAtMost m (progress_of l)) x y) p → ResultCausedIn p n r y → ResultCausedIn p (m + n) r x
 result_before p m n (Ok reply) x y f c = tt
 result_before p m n (Err fault) x y f c = caused_before p m n fault x y f c
 

@@ -4,3 +4,4 @@ pub mod Answers
 pub mod Laws
 pub mod Uploads
 pub mod Settling
+pub mod Setting

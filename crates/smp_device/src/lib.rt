@@ -4,6 +4,7 @@
 mod images;
 mod laws;
 mod lists;
+mod sets;
 mod settled;
 mod side_requests;
 mod uploads;

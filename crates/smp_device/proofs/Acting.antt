@@ -1,0 +1,224 @@
+-- An act on the side of an image, and the list after it.
+use Rattle.std.proofs.Common.{◌≡◌, ◌≤◌, ℕ, Bool, true, false, Option, Some, None, List, [], ◌∷◌, ◌++◌, Result, Ok, Err, refl, sym, ◌∙◌, ap, subst, arith}
+use Rattle.std.specs.Prelude.{IfSome, OnOk, IfOk, option_map}
+use Rattle.smp_flash.specs.Area.{Told, Keeps}
+use Rattle.smp_flash.specs.Calls.{Calls}
+use Rattle.smp_flash.specs.Layout.{progress_of}
+use Rattle.smp_flash.specs.State.{FlashState, End}
+use Rattle.smp_flash.specs.State.End.{Went}
+use Rattle.smp_flash.specs.declared.geometry.Geometry.{Geometry}
+use Rattle.smp_flash.specs.declared.layout.Layout.{Layout}
+use Rattle.smp_flash.proofs.Passing.{Calls-after, Calls-wider}
+use Rattle.smp_flash.proofs.Telling.{Told-trans, Told-map}
+use Rattle.smp_gate.specs.Newest.{AgesAtMost}
+use Rattle.smp_model.specs.declared.device.AbstractDevice.{AbstractDevice}
+use Rattle.smp_model.specs.declared.device.Side.{Side}
+use Rattle.smp_model.specs.declared.reply.Reply.{Reply}
+use Rattle.smp_model.specs.ImageGroup.{images_of, lists_after, lists_with, refuses_image}
+use Rattle.smp_model.specs.Response.{Response, SideResponse, responds}
+use Rattle.smp_model.specs.Said.{Said, said_of, if_some}
+use Rattle.smp_model.specs.Said as said
+use Rattle.smp_model.specs.Sides.{SideStep, side_applied}
+use Rattle.smp_model.specs.Steps.{Step, applied, on_side, side_at, with_side, Part}
+use Rattle.smp_upload.specs.Moves.{Moves, Does, Moved, Done, KeepsPending, mount_spots}
+use Rattle.smp_upload.specs.Bytes.{SideStands}
+use Rattle.smp_upload.specs.declared.states.UploadFault.{UploadFault}
+use Rattle.smp_upload.proofs.Composing.{shows_stands}
+use Rattle.smp_side.specs.Held.{Answers, Caused, ResultCaused, Tells, response_of, result_end, steps_by}
+use Rattle.smp_side.specs.declared.held.Handed.{Handed}
+use Rattle.smp_device.specs.Answers.{ImagesAnswer, ImagesReached, ImagesMove, ImagesDo, ImagesTell, ImagesCaused, ResultCausedIn}
+use Rattle.smp_device.specs.Laws.{Laws}
+use Rattle.smp_device.specs.Places.{Places, ArePlaces, place_at, spots_of, StandsAt, ImagesStand, AtEach, places_of, ImagesSay}
+use Rattle.smp_device.specs.Setting.{act_steps, acts_of, acts_on, is_empty}
+use Rattle.smp_device.specs.declared.images.Images.{Images}
+use Rattle.smp_device.specs.declared.images.Replied.{Replied}
+use Rattle.smp_device.specs.declared.sets.Act.{Act}
+use Rattle.smp_device.proofs.Lifting.{side_here, stands_with, steps_target, with_found, with_other, with_target, applied_append, told_two, caused_one}
+use Rattle.smp_device.proofs.Parting.{covers_at, ages_each, pending_each}
+use Rattle.smp_device.proofs.Settlements.{ages_both, ages_wider, pending_both, result_before, reached_behind, reached_more}
+
+-- The response to an act, of a side and of the device.
+
+abbrev pub acting : Act → Side → SideResponse
+acting act side = response_of (act_steps act side)
+
+abbrev steps_here : Act → (i : ℕ) → Option Side → List Step
+steps_here act i o = if_some o (λ s. on_side i (acting act s).steps)
+
+-- its steps are those of the side
+steps_are : (i : ℕ) (r : Result (List SideStep) ℕ) (d : AbstractDevice) → (lists_with i r d).steps ≡ on_side i (response_of r).steps
+steps_are i (Ok steps) d = refl
+steps_are i (Err number) d = refl
+
+act_moves : Laws → (g : Geometry) (p : Places) → ArePlaces g p → (i : ℕ) (l : Layout) → place_at i p ≡ Some l → (t : ℕ) (act : Act) (old new : List ℕ) → Moves l (steps_by (acting act)) old new → Keeps (mount_spots l) old new
+    → ImagesMove p t t (acts_on act i) old new
+act_moves laws g p are i l at t act old new moves keeps = λ d stands.
+    let h = side_here p t i l d old at stands in
+    let m = moves.moves h.side h.stands in
+    let x = (acting act h.side).steps in
+    let e = with_side i (λ _. m.reached) d in
+    let part : Part d (lists_with i (act_steps act h.side) d).steps e = subst (λ (s : List Step). Part d s e) (sym (steps_are i (act_steps act h.side) d)) (laws.part i x d h.side m.reached h.found m.part) in
+    record {
+      reached = e;
+      part = subst (λ (o : Option Side). Part d (acts_of act i o d).steps e) (sym h.found) part;
+      stands = stands_with laws g p are i l at t t d e m.reached old new keeps stands (with_found i (λ _. m.reached) d h.side h.found)
+          (λ j other. with_other i j (λ _. m.reached) d other) (with_target i (λ _. m.reached) d ∙ stands.target_is) m.stands;
+    }
+
+act_does : Laws → (g : Geometry) (p : Places) → ArePlaces g p → (i : ℕ) (l : Layout) → place_at i p ≡ Some l → (t : ℕ) (act : Act) (old new : List ℕ) → Does l (steps_by (acting act)) old new → Keeps (mount_spots l) old new
+    → ImagesDo p t t (acts_on act i) old new
+act_does laws g p are i l at t act old new does keeps = λ d stands.
+    let h = side_here p t i l d old at stands in
+    let x = (acting act h.side).steps in
+    let e = applied (on_side i x) d in
+    let here : ImagesStand p t e new = stands_with laws g p are i l at t t d e (side_applied x h.side) old new keeps stands (laws.found i x d h.side h.found) (λ j other. laws.others i j x d other)
+        (steps_target laws i x d h.side h.found ∙ stands.target_is) (shows_stands l (side_applied x h.side) new (does.does h.side h.stands)) in
+    let there : ImagesStand p t (applied (lists_with i (act_steps act h.side) d).steps d) new = subst (λ (s : List Step). ImagesStand p t (applied s d) new) (sym (steps_are i (act_steps act h.side) d)) here in
+    subst (λ (o : Option Side). ImagesStand p t (applied (acts_of act i o d).steps d) new) (sym h.found) there
+
+-- The reply of the act, and what it says of the response.
+
+refusal_said : (i : ℕ) (r : Result (List SideStep) ℕ) (d : AbstractDevice) (s : Said) → s ≡ (response_of r).reply → is_empty s ≡ false → s ≡ (lists_with i r d).reply
+refusal_said i (Ok steps) d s e f = absurd (cc (sym (ap is_empty e) ∙ f))
+refusal_said i (Err number) d s e f = e
+
+done_said : (i : ℕ) (r : Result (List SideStep) ℕ) (d : AbstractDevice) (s : Said) → s ≡ (response_of r).reply → is_empty s ≡ true → (lists_with i r d) ≡ lists_after (on_side i (response_of r).steps) d
+done_said i (Ok steps) d s e f = refl
+done_said i (Err number) d s e f = absurd (cc (sym (ap is_empty e) ∙ f))
+
+refusal_told : (p : Places) (t i : ℕ) (l : Layout) (act : Act) (reply : Reply) (x : Option (List ℕ)) → place_at i p ≡ Some l → is_empty (said_of reply) ≡ false → Tells l (acting act) x reply → ImagesTell p t (acts_on act i) x reply
+refusal_told p t i l act reply None at e f = tt
+refusal_told p t i l act reply (Some u) at e f = λ d stands.
+    let h = side_here p t i l d u at stands in
+    refusal_said i (act_steps act h.side) d (said_of reply) (f h.side h.stands) e ∙ ap (λ (o : Option Side). (acts_of act i o d).reply) (sym h.found)
+
+result_caused : (p : Places) (i : ℕ) (l : Layout) (n : ℕ) (r : Result Reply UploadFault) (x : Option (List ℕ)) → place_at i p ≡ Some l → ResultCaused l n r x → ResultCausedIn p n r x
+result_caused p i l n (Ok reply) x at c = tt
+result_caused p i l n (Err fault) x at c = caused_one p i l n fault x at c
+
+-- The act was refused, or broken off.
+
+abbrev AnswerParts : Places → (n t : ℕ) → (AbstractDevice → Response) → Result Reply UploadFault → FlashState → FlashState → Type 0
+AnswerParts p n t respond r a b = (images : Images) → places_of images ≡ p → images.target ≡ t → IfSome b.bytes (ImagesSay images) → ImagesAnswer p n t respond images r a b
+
+pub act_refused : Laws → (g : Geometry) (p : Places) → ArePlaces g p → (i : ℕ) (l : Layout) → place_at i p ≡ Some l → (t : ℕ) (act : Act) (reply : Reply) (handed : Handed) (a b : FlashState)
+    → handed.result ≡ Ok reply → is_empty (said_of reply) ≡ false → Answers l 0 (acting act) handed a b → AnswerParts p 0 t (acts_on act i) (Ok reply) a b
+act_refused laws g p are i l at t act reply handed a b is e f = λ images places target says.
+    let keeps = f.moved.calls.keeps in
+    let done : Done l (mount_spots l) 0 (steps_by (acting act)) a b = subst (λ (r : Result Reply UploadFault). OnOk r (Done l (mount_spots l) 0 (steps_by (acting act)) a b)) is f.done in
+    let told : Tells l (acting act) a.bytes reply = subst (λ (r : Result Reply UploadFault). IfOk r (Tells l (acting act) a.bytes)) is f.said in
+    record {
+      calls = Calls-wider (spots_of p) (mount_spots l) Went a b (covers_at p i l at) done.calls;
+      moves = subst (λ (u : ℕ). Told (ImagesMove p t u (acts_on act i)) a.bytes b.bytes) (sym target)
+          (told_two (Moves l (steps_by (acting act))) (Keeps (mount_spots l)) (ImagesMove p t t (acts_on act i)) a.bytes b.bytes (λ u v. act_moves laws g p are i l at t act u v) f.moved.moves keeps);
+      done = subst (λ (u : ℕ). Told (ImagesDo p t u (acts_on act i)) a.bytes b.bytes) (sym target)
+          (told_two (Does l (steps_by (acting act))) (Keeps (mount_spots l)) (ImagesDo p t t (acts_on act i)) a.bytes b.bytes (λ u v. act_does laws g p are i l at t act u v) done.does keeps);
+      said = refusal_told p t i l act reply a.bytes at e told;
+      says = says;
+      places_kept = places;
+      ages = ages_each g p i l 0 a.bytes b.bytes are at f.moved.ages keeps;
+      pending = pending_each g p i l a.bytes b.bytes are at f.moved.pending keeps;
+      caused = tt;
+    }
+
+pub act_broken : Laws → (g : Geometry) (p : Places) → ArePlaces g p → (i : ℕ) (l : Layout) → place_at i p ≡ Some l → (t : ℕ) (act : Act) (fault : UploadFault) (handed : Handed) (a b : FlashState)
+    → handed.result ≡ Err fault → Answers l 0 (acting act) handed a b → AnswerParts p 0 t (acts_on act i) (Err fault) a b
+act_broken laws g p are i l at t act fault handed a b is f = λ images places target says.
+    let keeps = f.moved.calls.keeps in
+    record {
+      calls = subst (λ (r : Result Reply UploadFault). Calls (spots_of p) (result_end r) a b) is (Calls-wider (spots_of p) (mount_spots l) (result_end handed.result) a b (covers_at p i l at) f.moved.calls);
+      moves = subst (λ (u : ℕ). Told (ImagesMove p t u (acts_on act i)) a.bytes b.bytes) (sym target)
+          (told_two (Moves l (steps_by (acting act))) (Keeps (mount_spots l)) (ImagesMove p t t (acts_on act i)) a.bytes b.bytes (λ u v. act_moves laws g p are i l at t act u v) f.moved.moves keeps);
+      done = tt;
+      said = tt;
+      says = says;
+      places_kept = places;
+      ages = ages_each g p i l 0 a.bytes b.bytes are at f.moved.ages keeps;
+      pending = pending_each g p i l a.bytes b.bytes are at f.moved.pending keeps;
+      caused = result_caused p i l 0 (Err fault) a.bytes at (subst (λ (r : Result Reply UploadFault). ResultCaused l 0 r a.bytes) is f.caused);
+    }
+
+-- It was done, and the list was read.
+
+append_none : (s : List Step) → s ++ [] ≡ s
+append_none [] = refl
+append_none (x ∷ s) = ap (λ (r : List Step). x ∷ r) (append_none s)
+
+-- what the list answers behind the steps of the act is what the act answers
+listed : (act : Act) (i : ℕ) (d : AbstractDevice) (side : Side) (s : Said) → side_at i d ≡ Some side → s ≡ (acting act side).reply → is_empty s ≡ true
+    → acts_on act i d ≡ responds (images_of (applied (on_side i (acting act side).steps) d)) (on_side i (acting act side).steps)
+listed act i d side s found e f = ap (λ (o : Option Side). acts_of act i o d) found ∙ done_said i (act_steps act side) d s e f
+
+list_moves : Laws → (g : Geometry) (p : Places) → ArePlaces g p → (i : ℕ) (l : Layout) → place_at i p ≡ Some l → (t u : ℕ) (act : Act) (reply : Reply) (old middle new : List ℕ) → is_empty (said_of reply) ≡ true
+    → ((side : Side) → SideStands l side old → said_of reply ≡ (acting act side).reply)
+    → Does l (steps_by (acting act)) old middle → Keeps (mount_spots l) old middle → ImagesMove p t u (lists_after []) middle new → ImagesMove p t u (acts_on act i) old new
+list_moves laws g p are i l at t u act reply old middle new e told does keeps list = λ d stands.
+    let h = side_here p t i l d old at stands in
+    let x = on_side i (acting act h.side).steps in
+    let is = listed act i d h.side (said_of reply) h.found (told h.side h.stands) e in
+    let mid : ImagesStand p t (applied x d) middle = subst (λ (r : Response). ImagesStand p t (applied r.steps d) middle) is (act_does laws g p are i l at t act old middle does keeps d stands) in
+    let r = list (applied x d) mid in
+    let behind = reached_behind laws p u d x [] new r in
+    subst (λ (s : Response). ImagesReached p u d s.steps new) (sym is) (subst (λ (s : List Step). ImagesReached p u d s new) (append_none x) behind)
+
+list_does : Laws → (g : Geometry) (p : Places) → ArePlaces g p → (i : ℕ) (l : Layout) → place_at i p ≡ Some l → (t u : ℕ) (act : Act) (reply : Reply) (old middle new : List ℕ) → is_empty (said_of reply) ≡ true
+    → ((side : Side) → SideStands l side old → said_of reply ≡ (acting act side).reply)
+    → Does l (steps_by (acting act)) old middle → Keeps (mount_spots l) old middle → ImagesDo p t u (lists_after []) middle new → ImagesDo p t u (acts_on act i) old new
+list_does laws g p are i l at t u act reply old middle new e told does keeps list = λ d stands.
+    let h = side_here p t i l d old at stands in
+    let x = on_side i (acting act h.side).steps in
+    let is = listed act i d h.side (said_of reply) h.found (told h.side h.stands) e in
+    let mid : ImagesStand p t (applied x d) middle = subst (λ (r : Response). ImagesStand p t (applied r.steps d) middle) is (act_does laws g p are i l at t act old middle does keeps d stands) in
+    subst (λ (s : Response). ImagesStand p u (applied s.steps d) new) (sym is) (list (applied x d) mid)
+
+list_tells : Laws → (g : Geometry) (p : Places) → ArePlaces g p → (i : ℕ) (l : Layout) → place_at i p ≡ Some l → (t : ℕ) (act : Act) (reply next : Reply) (x y : Option (List ℕ)) → is_empty (said_of reply) ≡ true
+    → Tells l (acting act) x reply → Told (Does l (steps_by (acting act))) x y → Told (Keeps (mount_spots l)) x y → ImagesTell p t (lists_after []) y next → ImagesTell p t (acts_on act i) x next
+list_tells laws g p are i l at t act reply next None y e told does keeps list = tt
+list_tells laws g p are i l at t act reply next (Some u) None e told does keeps list = absurd does
+list_tells laws g p are i l at t act reply next (Some u) (Some v) e told does keeps list = λ d stands.
+    let h = side_here p t i l d u at stands in
+    let x = on_side i (acting act h.side).steps in
+    let is = listed act i d h.side (said_of reply) h.found (told h.side h.stands) e in
+    let mid : ImagesStand p t (applied x d) v = subst (λ (r : Response). ImagesStand p t (applied r.steps d) v) is (act_does laws g p are i l at t act u v does keeps d stands) in
+    list (applied x d) mid ∙ ap (λ (r : Response). r.reply) (sym is)
+
+list_said : Laws → (g : Geometry) (p : Places) → ArePlaces g p → (i : ℕ) (l : Layout) → place_at i p ≡ Some l → (t : ℕ) (act : Act) (reply : Reply) (r : Result Reply UploadFault) (x y : Option (List ℕ)) → is_empty (said_of reply) ≡ true
+    → Tells l (acting act) x reply → Told (Does l (steps_by (acting act))) x y → Told (Keeps (mount_spots l)) x y → IfOk r (ImagesTell p t (lists_after []) y) → IfOk r (ImagesTell p t (acts_on act i) x)
+list_said laws g p are i l at t act reply (Ok next) x y e told does keeps list = list_tells laws g p are i l at t act reply next x y e told does keeps list
+list_said laws g p are i l at t act reply (Err fault) x y e told does keeps list = tt
+
+-- as far as the bytes are told
+told_five : (R K S T : List ℕ → List ℕ → Type 0) (P : List ℕ → Type 0) (x y z : Option (List ℕ)) → ((u v w : List ℕ) → P u → R u v → K u v → S v w → T u w) → IfSome x P → Told R x y → Told K x y → Told S y z → Told T x z
+told_five R K S T P None None None f p a b c = tt
+told_five R K S T P None None (Some w) f p a b c = absurd c
+told_five R K S T P None (Some v) z f p a b c = absurd a
+told_five R K S T P (Some u) None z f p a b c = absurd a
+told_five R K S T P (Some u) (Some v) None f p a b c = absurd c
+told_five R K S T P (Some u) (Some v) (Some w) f p a b c = f u v w p a b c
+
+list_done : Laws → (g : Geometry) (p : Places) → ArePlaces g p → (i : ℕ) (l : Layout) → place_at i p ≡ Some l → (t u : ℕ) (act : Act) (reply : Reply) (r : Result Reply UploadFault) (x y z : Option (List ℕ)) → is_empty (said_of reply) ≡ true
+    → Tells l (acting act) x reply → Told (Does l (steps_by (acting act))) x y → Told (Keeps (mount_spots l)) x y → OnOk r (Told (ImagesDo p t u (lists_after [])) y z) → OnOk r (Told (ImagesDo p t u (acts_on act i)) x z)
+list_done laws g p are i l at t u act reply (Ok next) x y z e told does keeps list =
+    told_five (Does l (steps_by (acting act))) (Keeps (mount_spots l)) (ImagesDo p t u (lists_after [])) (ImagesDo p t u (acts_on act i)) (λ o. (side : Side) → SideStands l side o → said_of reply ≡ (acting act side).reply) x y z
+    (λ o m n tells d k list2. list_does laws g p are i l at t u act reply o m n e tells d k list2) told does keeps list
+list_done laws g p are i l at t u act reply (Err fault) x y z e told does keeps list = tt
+
+pub act_listed : Laws → (g : Geometry) (p : Places) → ArePlaces g p → (i : ℕ) (l : Layout) → place_at i p ≡ Some l → (t : ℕ) (act : Act) (reply : Reply) (handed : Handed) (images : Images) (r : Result Reply UploadFault) (a b c : FlashState)
+    → handed.result ≡ Ok reply → is_empty (said_of reply) ≡ true → Answers l 0 (acting act) handed a b → ImagesAnswer p 0 t (lists_after []) images r b c → ImagesAnswer p 0 t (acts_on act i) images r a c
+act_listed laws g p are i l at t act reply handed images r a b c is e f list =
+    let keeps = f.moved.calls.keeps in
+    let done : Done l (mount_spots l) 0 (steps_by (acting act)) a b = subst (λ (q : Result Reply UploadFault). OnOk q (Done l (mount_spots l) 0 (steps_by (acting act)) a b)) is f.done in
+    let told : Tells l (acting act) a.bytes reply = subst (λ (q : Result Reply UploadFault). IfOk q (Tells l (acting act) a.bytes)) is f.said in
+    let ages = ages_each g p i l 0 a.bytes b.bytes are at f.moved.ages keeps in
+    record {
+      calls = Calls-after (spots_of p) (result_end r) a b c (Calls-wider (spots_of p) (mount_spots l) Went a b (covers_at p i l at) done.calls) list.calls;
+      moves = told_five (Does l (steps_by (acting act))) (Keeps (mount_spots l)) (ImagesMove p t images.target (lists_after [])) (ImagesMove p t images.target (acts_on act i)) (λ o. (side : Side) → SideStands l side o → said_of reply ≡ (acting act side).reply)
+          a.bytes b.bytes c.bytes (λ o m n tells d k list2. list_moves laws g p are i l at t images.target act reply o m n e tells d k list2) told done.does keeps list.moves;
+      done = list_done laws g p are i l at t images.target act reply r a.bytes b.bytes c.bytes e told done.does keeps list.done;
+      said = list_said laws g p are i l at t act reply r a.bytes b.bytes e told done.does keeps list.said;
+      says = list.says;
+      places_kept = list.places_kept;
+      ages = ages_both 0 0 p a.bytes b.bytes c.bytes ages list.ages;
+      pending = pending_both p a.bytes b.bytes c.bytes (pending_each g p i l a.bytes b.bytes are at f.moved.pending keeps) list.pending;
+      caused = result_before p 0 0 r a.bytes b.bytes ages list.caused;
+    }

@@ -1,0 +1,109 @@
+//! Marks and confirmations, over images of which all are mounted.
+
+ghost use Rattle.std.specs.Prelude.{◌≡◌, ◌∷◌, [], Some, None, IfOk, IfSome, IsSome};
+ghost use Rattle.smp_flash.specs.Calls.{Calls};
+ghost use Rattle.smp_flash.specs.Layout.{area_spot, geometry_of, slot_of};
+ghost use Rattle.smp_flash.specs.State.{ended};
+ghost use Rattle.smp_model.specs.ImageGroup.{has_hash, runs};
+ghost use Rattle.smp_model.specs.Said.{said_of};
+ghost use Rattle.smp_model.specs.declared.device.Side.{Side as Slots};
+ghost use Rattle.smp_side.specs.Held.{Answers, response_of};
+ghost use Rattle.smp_upload.specs.Bytes.{SideStands};
+ghost use Rattle.smp_upload.specs.States.{Says, known_mounted};
+ghost use Rattle.smp_device.specs.Answers.{ImagesAnswer};
+ghost use Rattle.smp_device.specs.Places.{ArePlaces};
+ghost use Rattle.smp_device.specs.Setting.{CanAct, act_steps, acts_on, is_empty};
+ghost use Rattle.smp_device.specs.Settling.{SettledSay, alone_places, alone_settled, both_places, both_settled};
+
+use crate::images::{Images, Replied};
+use crate::laws::side_laws;
+use crate::lists::list_settled;
+use crate::settled::Settled;
+use smp_flash::{CallFault, Flash};
+use smp_model::{Mark, Reply};
+use smp_side::{Handed, Held, confirm, layout_of, mark};
+use smp_upload::{Mounted, active_image, sides_are_told_apart};
+
+/// What is to be done with an image.
+#[derive(Clone, Copy, Debug)]
+pub enum Act {
+    /// The image that runs is to stay; or it is to be marked for a test, which is refused.
+    Confirm(bool),
+    /// The image that was uploaded is to run.
+    Mark(Mark),
+}
+
+/// What a hash means: the image that runs as this one, the image that was uploaded for this one, or none.
+#[derive(Clone, Copy, Debug)]
+pub enum Meaning {
+    Runs(u32),
+    Holds(u32),
+    Nothing,
+}
+
+/// Does it on a side.
+fn act_on<F: Flash>(mounted: Mounted, flash: &mut F, act: Act) -> Handed
+    requires layout { geometry_of (known_mounted mounted).layout ≡ (F.state flash.old).geometry }
+    requires says { IfSome (F.state flash.old).bytes (Says (known_mounted mounted)) }
+    requires can { CanAct act mounted }
+    ensures { Answers (known_mounted mounted).layout 0 (λ side. response_of (act_steps act side)) result (F.state flash.old) (F.state flash.new) }
+{
+    match act {
+        Act::Confirm(asked) => confirm(mounted, flash, asked),
+        Act::Mark(asked) => mark(mounted, flash, asked),
+    }
+}
+
+/// The reply says that it is done.
+fn is_empty(reply: &Reply<'static>) -> bool
+    ensures { result ≡ is_empty (said_of reply.now) }
+{
+    match reply {
+        Reply::Empty => true,
+        _ => false,
+    }
+}
+
+/// Does it on the image of a device of one, and lists the images.
+fn act_alone<F: Flash>(zero: Mounted, target: u32, flash: &mut F, act: Act) -> Replied
+    requires places { ArePlaces (F.state flash.old).geometry (alone_places zero) }
+    requires says { IfSome (F.state flash.old).bytes (SettledSay (alone_settled zero target)) }
+    requires can { CanAct act zero }
+    ensures { ImagesAnswer (alone_places zero) 0 target (acts_on act 0) result.images result.result (F.state flash.old) (F.state flash.new) }
+{
+    side_laws();
+    let handed = act_on(zero, flash, act);
+    match handed.result {
+        Err(fault) => Replied {
+            images: Images {
+                zero: handed.held,
+                one: None,
+                target,
+            },
+            result: Err(fault),
+        },
+        Ok(reply) => {
+            if !is_empty(&reply) {
+                return Replied {
+                    images: Images {
+                        zero: handed.held,
+                        one: None,
+                        target,
+                    },
+                    result: Ok(reply),
+                };
+            }
+            match handed.held {
+                Held::Mounted(zero) => list_settled(
+                    Settled {
+                        zero,
+                        one: None,
+                        target,
+                    },
+                    flash,
+                ),
+                Held::Unmounted(_) => unreachable!(),
+            }
+        }
+    }
+}
