@@ -1,5 +1,5 @@
 -- Parts of an upload: what a side answers, by what a state knows.
-use Rattle.std.proofs.Common.{◌≡◌, ◌⊎◌, inl, inr, ℕ, ◌+◌, ◌*◌, ◌/◌, ◌<◌, ◌≤◌, ◌==◌, Bool, true, false, Option, Some, None, List, [], ◌∷◌, length, take, Result, Ok, Err, refl, sym, ◌∙◌, ap, subst, arith, nat_lt, if◌then◌else◌}
+use Rattle.std.proofs.Common.{◌≡◌, ℕ, ◌+◌, ◌*◌, ◌/◌, ◌<◌, ◌≤◌, ◌==◌, Bool, true, false, Option, Some, None, List, [], ◌∷◌, length, take, Ok, refl, sym, ◌∙◌, ap, subst, arith, nat_lt, if◌then◌else◌}
 use Rattle.std.proofs.lemmas.Bool.Decides.{nat_tests}
 use Rattle.std.specs.Prelude.{IfSome, option_map, is_some, ◌&&◌}
 use Rattle.smp_flash.specs.Layout.{geometry_of, upload_spots}
@@ -8,7 +8,7 @@ use Rattle.smp_flash.specs.declared.layout.Layout.{Layout}
 use Rattle.smp_flash.proofs.Telling.{IfSome-map}
 use Rattle.smp_model.specs.declared.device.Side.{Side}
 use Rattle.smp_model.specs.declared.device.Upload.{Upload}
-use Rattle.smp_model.specs.declared.error.TheConstants.{IMAGE_GROUP, NO_FREE_SLOT, PAST_UPLOAD_END}
+use Rattle.smp_model.specs.declared.error.TheConstants.{PAST_UPLOAD_END}
 use Rattle.smp_model.specs.declared.reply.Reply.{Reply}
 use Rattle.smp_model.specs.declared.reply.Reply.TheVariants as replied
 use Rattle.smp_model.specs.declared.upload.Announcement.{Announcement}
@@ -17,7 +17,7 @@ use Rattle.smp_model.specs.ImageGroup.{begins, start_at, part_at, new_start, res
 use Rattle.smp_model.specs.Response.{SideResponse, side_responds}
 use Rattle.smp_model.specs.Said.{Said, said_of}
 use Rattle.smp_model.specs.Said as said
-use Rattle.smp_model.specs.Sides.{SideStep, Choose}
+use Rattle.smp_model.specs.Sides.{Choose}
 use Rattle.smp_model.specs.Uploads.{is_resumed_by, is_tagged_by, kept}
 use Rattle.smp_upload.specs.Bytes.{SideStands, SideReadable}
 use Rattle.smp_upload.specs.Faults.{upload_fault_end}
@@ -147,32 +147,40 @@ start_busy unit a bytes b o p mark u r busy is = first_is unit a bytes b p u fal
 
 pub plain_upload : OneSide → (known : Known) (a : Announcement) (o : ℕ) (respond : Option Mark → Option Upload → SideResponse) (reply : Said) (bytes : List ℕ) → known.upload ≡ Some (record { announcement = a; offset = o })
     → ((p : Option Mark) (u : Upload) → known.pending ≡ p → Is a o u → respond p (Some u) ≡ offers reply) → Says known bytes → Plain known.layout (λ side. respond side.pending side.upload) reply bytes
-plain_upload one known a o respond reply bytes e f says = record { plain = λ side stands.
-    let k : Knows known side = says_knows one known side bytes says stands in
-    upload_cases (λ up. respond side.pending up ≡ offers reply) a o side.upload (λ u is. f side.pending u k.pending is) (sym e ∙ k.upload) }
+plain_upload one known a o respond reply bytes e f says = record {
+  plain = λ side stands.
+      let k : Knows known side = says_knows one known side bytes says stands in
+      upload_cases (λ up. respond side.pending up ≡ offers reply) a o side.upload (λ u is. f side.pending u k.pending is) (sym e ∙ k.upload);
+}
 
 pub plain_none : OneSide → (known : Known) (respond : Option Mark → Option Upload → SideResponse) (reply : Said) (bytes : List ℕ) → known.upload ≡ None
     → ((p : Option Mark) → known.pending ≡ p → respond p None ≡ offers reply) → Says known bytes → Plain known.layout (λ side. respond side.pending side.upload) reply bytes
-plain_none one known respond reply bytes e f says = record { plain = λ side stands.
-    let k : Knows known side = says_knows one known side bytes says stands in
-    none_cases (λ up. respond side.pending up ≡ offers reply) side.upload (f side.pending k.pending) (sym e ∙ k.upload) }
+plain_none one known respond reply bytes e f says = record {
+  plain = λ side stands.
+      let k : Knows known side = says_knows one known side bytes says stands in
+      none_cases (λ up. respond side.pending up ≡ offers reply) side.upload (f side.pending k.pending) (sym e ∙ k.upload);
+}
 
 -- the same response, by what is known
 pub same_upload : OneSide → (known : Known) (a : Announcement) (o : ℕ) (first other : Option Mark → Option Upload → SideResponse) (x : Option (List ℕ)) → known.upload ≡ Some (record { announcement = a; offset = o })
     → ((p : Option Mark) (u : Upload) → known.pending ≡ p → Is a o u → first p (Some u) ≡ other p (Some u)) → IfSome x (Says known)
     → IfSome x (Same known.layout (λ side. first side.pending side.upload) (λ side. other side.pending side.upload))
 same_upload one known a o first other x e f says = IfSome-map (Says known) (Same known.layout (λ side. first side.pending side.upload) (λ side. other side.pending side.upload)) x
-    (λ bytes s. record { same = λ side stands.
-        let k : Knows known side = says_knows one known side bytes s stands in
-        upload_cases (λ up. first side.pending up ≡ other side.pending up) a o side.upload (λ u is. f side.pending u k.pending is) (sym e ∙ k.upload) }) says
+    (λ bytes s. record {
+      same = λ side stands.
+          let k : Knows known side = says_knows one known side bytes s stands in
+          upload_cases (λ up. first side.pending up ≡ other side.pending up) a o side.upload (λ u is. f side.pending u k.pending is) (sym e ∙ k.upload);
+    }) says
 
 pub same_none : OneSide → (known : Known) (first other : Option Mark → Option Upload → SideResponse) (x : Option (List ℕ)) → known.upload ≡ None
     → ((p : Option Mark) → known.pending ≡ p → first p None ≡ other p None) → IfSome x (Says known)
     → IfSome x (Same known.layout (λ side. first side.pending side.upload) (λ side. other side.pending side.upload))
 same_none one known first other x e f says = IfSome-map (Says known) (Same known.layout (λ side. first side.pending side.upload) (λ side. other side.pending side.upload)) x
-    (λ bytes s. record { same = λ side stands.
-        let k : Knows known side = says_knows one known side bytes s stands in
-        none_cases (λ up. first side.pending up ≡ other side.pending up) side.upload (f side.pending k.pending) (sym e ∙ k.upload) }) says
+    (λ bytes s. record {
+      same = λ side stands.
+          let k : Knows known side = says_knows one known side bytes s stands in
+          none_cases (λ up. first side.pending up ≡ other side.pending up) side.upload (f side.pending k.pending) (sym e ∙ k.upload);
+    }) says
 
 -- A part.
 

@@ -1,7 +1,7 @@
 use Rattle.std.proofs.Common.{refl, sym, ◌∙◌}
 use Rattle.std.specs.Prelude.{option_map}
 use Rattle.smp_flash.specs.Layout.{geometry_of}
-use Rattle.smp_upload.specs.States.{known_mounted, known_receiving}
+use Rattle.smp_upload.specs.States.{known_receiving}
 use Rattle.smp_upload.specs.declared.states.Mounted.TheVariants as mounts
 use Rattle.smp_side.proofs.Parting.{part_idle, part_other, part_here, part_more, part_end, part_for, says_for}
 use Rattle.smp_side.proofs.uploading.part_at.Goals as goal

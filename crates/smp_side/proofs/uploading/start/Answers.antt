@@ -1,6 +1,6 @@
 use Rattle.std.proofs.Common.{refl, arith}
 use Rattle.smp_flash.specs.Layout.{geometry_of}
-use Rattle.smp_upload.specs.States.{known_mounted, known_idle, known_receiving, known_whole}
+use Rattle.smp_upload.specs.States.{known_idle, known_receiving, known_whole}
 use Rattle.smp_upload.specs.declared.states.Mounted.TheVariants as mounts
 use Rattle.smp_side.proofs.Parting.{start_wanted, start_refused, start_anew, start_idle, start_again, start_for, says_for}
 use Rattle.smp_side.proofs.uploading.start.Goals as goal
