@@ -8,7 +8,7 @@ returns-in-Err-clause-says c = lost_says c.args.held _ _ c.lost.result _ _ _ _ c
 
 pub returns-in-Part-clause-sizes : goal.returns-in-Part-clause-sizes
 returns-in-Part-clause-sizes c =
-    sizes_after _ _ _ c.part_at.result _ _ c.part_at.ensures (ap geometry_of c.in-Ok.ensures.layout ∙ c.requires.sizes ∙ sym c.in-Ok.ensures.moved.calls.passes.geometry)
+    sizes_after _ _ _ c.part_at.result _ _ c.part_at.ensures.answers (ap geometry_of c.in-Ok.ensures.layout ∙ c.requires.sizes ∙ sym c.in-Ok.ensures.moved.calls.passes.geometry)
 
 pub returns-in-Erase-clause-sizes : goal.returns-in-Erase-clause-sizes
 returns-in-Erase-clause-sizes c =
