@@ -18,6 +18,7 @@ use smp_flash::{Arm, ArmKind, CallFault, Flash, Geometry, Layout, Left, MemFlash
 use smp_gate::banks_fit;
 use smp_model::{Announcement, Mark, Version, make_image};
 use smp_progress::Progress;
+use sha2::{Digest, Sha256};
 use smp_slot::{put, slots_fit, tail_is_clean};
 use std::alloc::{AllocError, Global};
 use std::test::Fail;
@@ -512,4 +513,134 @@ pub fn formatted(alloc: Global, sizes: Geometry, second: bool) -> Result<Board, 
     Progress::make(&mut flash, &layout)?;
     put_image(&mut flash, &layout, image.as_slice())?;
     Ok(Board { flash, layout })
+}
+
+/// A file that is to be uploaded: its bytes, what is announced of it, in parts of which sizes, and how it is marked in the end.
+#[derive(Drop)]
+pub struct Plan {
+    pub bytes: Vec<u8>,
+    pub announcement: Announcement,
+    pub sizes: [usize; 7],
+    pub mark: Option<Mark>,
+}
+
+/// So many bytes that are told apart by their place, none of them FF.
+fn text(alloc: Global, count: usize, first: u8) -> Result<Vec<u8>, AllocError> {
+    let mut bytes = Vec::new(alloc);
+    for i in 0..count {
+        bytes.push((first & 0x3f) + (i % 97) as u8)?;
+    }
+    Ok(bytes)
+}
+
+/// A good image with such a payload, announced with its digest.
+pub fn planned(
+    alloc: Global,
+    count: usize,
+    first: u8,
+    sizes: [usize; 7],
+    mark: Option<Mark>,
+) -> Result<Plan, Fail> {
+    let payload = text(alloc, count, first)?;
+    let payload = payload.as_slice();
+    let image = make_image(alloc, &payload[..payload.len().min(1_000_000)], VERSION)?;
+    let mut bytes = Vec::new(alloc);
+    bytes.extend_from_slice(image.as_slice())?;
+    let announcement = Announcement {
+        length: image.as_slice().len() as u32,
+        digest: Some(Sha256::digest(image.as_slice())),
+    };
+    Ok(Plan {
+        bytes,
+        announcement,
+        sizes,
+        mark,
+    })
+}
+
+impl Plan {
+    /// The bytes from an offset on, so many or all that are left.
+    pub fn part(&self, offset: u32, size: usize) -> &[u8] {
+        let rest = self.bytes.get(offset as usize..).unwrap_or(&[]);
+        &rest[..rest.len().min(size)]
+    }
+
+    /// The size of the part of this number.
+    fn size(&self, turn: usize) -> usize {
+        self.sizes.get(turn % 7).copied().unwrap_or(64)
+    }
+
+    /// Whether nothing is left to do.
+    pub fn is_done(&self, state: &Mounted) -> bool {
+        match look_at(state) {
+            Seen::Idle | Seen::Receiving(_, _) => false,
+            Seen::Whole(announcement, _) => {
+                announcement == self.announcement && self.mark.is_none()
+            }
+            Seen::Pending(announcement, mark) => {
+                announcement == self.announcement && Some(mark) == self.mark
+            }
+        }
+    }
+}
+
+/// Does what comes next: the file is chosen, a part of it is stored, or it is marked.
+fn step(bench: Bench, plan: &Plan, turn: usize) -> Result<Bench, Stopped>
+    requires says { IfSome (mem_state bench.flash).bytes (Says (known_mounted bench.state)) }
+    ensures says { IfOk result (λ bench. IfSome (mem_state bench.flash).bytes (Says (known_mounted bench.state))) }
+{
+    match look_at(&bench.state) {
+        Seen::Receiving(offset, announcement) if announcement == plan.announcement => {
+            part(bench, plan.part(offset, plan.size(turn)))
+        }
+        Seen::Whole(announcement, _) if announcement == plan.announcement => {
+            set_pending(bench, plan.mark.unwrap_or(Mark::Test))
+        }
+        _ => choose(bench, plan.announcement),
+    }
+}
+
+/// Uploads the file, or the rest of it, and marks it.
+pub fn run(bench: Bench, plan: &Plan) -> Result<Bench, Stopped>
+    requires says { IfSome (mem_state bench.flash).bytes (Says (known_mounted bench.state)) }
+    ensures says { IfOk result (λ bench. IfSome (mem_state bench.flash).bytes (Says (known_mounted bench.state))) }
+{
+    let mut bench = bench;
+    for turn in 0..1000 {
+        if plan.is_done(&bench.state) {
+            return Ok(bench);
+        }
+        bench = step(bench, plan, turn)?;
+    }
+    Err(refused(bench))
+}
+
+/// What a call leaves that is to go through.
+pub fn went(call: Result<Bench, Stopped>) -> Result<Bench, Fail>
+    requires says { IfOk call (λ bench. IfSome (mem_state bench.flash).bytes (Says (known_mounted bench.state))) }
+    ensures says { IfOk result (λ bench. IfSome (mem_state bench.flash).bytes (Says (known_mounted bench.state))) }
+{
+    match call {
+        Ok(bench) => Ok(bench),
+        Err(stopped) => Err(Fail::from(stopped.fault)),
+    }
+}
+
+/// A new flash of which an image is formatted, with the state that is found.
+pub fn started(alloc: Global, sizes: Geometry, second: bool) -> Result<Bench, Fail>
+    requires { IsTrue (is_lawful sizes) }
+    ensures says { IfOk result (λ bench. IfSome (mem_state bench.flash).bytes (Says (known_mounted bench.state))) }
+{
+    let board = formatted(alloc, sizes, second)?;
+    went(mount(board))
+}
+
+/// The sizes of a flash of two images.
+pub fn sizes(page: u32, unit: u32) -> Geometry {
+    Geometry {
+        page,
+        unit,
+        slot_pages: 4,
+        images: 2,
+    }
 }
