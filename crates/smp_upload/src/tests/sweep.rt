@@ -167,17 +167,33 @@ fn struck_twice(
 
 /// The new upload is struck so, and each operation of the recovery in turn, until there is none. Whether the first one was
 /// struck is told.
-fn struck_on(rt: &impl Abort, alloc: Global, case: &Case, first: Arm) -> Result<bool, Fail>
+fn struck_on(
+    rt: &impl Abort,
+    alloc: Global,
+    case: &Case,
+    first: Arm,
+    kind: ArmKind,
+    left: Left,
+) -> Result<bool, Fail>
     requires { 1 ≤ first.after }
 {
     for after in 1..20 {
-        let again = strike(first.kind, after, first.left);
+        let again = strike(kind, after, left);
         let (first_struck, again_struck) = struck_twice(rt, alloc, case, first, again)?;
         if !again_struck {
             return Ok(first_struck);
         }
     }
     Err(Fail::from(first))
+}
+
+/// The new upload is struck so, and the recovery in the same way, by a cut that leaves noise, and by a failure that leaves nothing.
+fn struck_in_turn(rt: &impl Abort, alloc: Global, case: &Case, first: Arm) -> Result<bool, Fail>
+    requires { 1 ≤ first.after }
+{
+    struck_on(rt, alloc, case, first, ArmKind::Cut, Left::Seed(11))?;
+    struck_on(rt, alloc, case, first, ArmKind::Fail, Left::Nothing)?;
+    struck_on(rt, alloc, case, first, first.kind, first.left)
 }
 
 /// Each operation of the new upload is struck in turn, until there is none: so many.
@@ -189,7 +205,7 @@ fn struck_at_each(
     left: Left,
 ) -> Result<u32, Fail> {
     for after in 1..200 {
-        if !struck_on(rt, alloc, case, strike(kind, after, left))? {
+        if !struck_in_turn(rt, alloc, case, strike(kind, after, left))? {
             return Ok(after);
         }
     }
@@ -197,8 +213,8 @@ fn struck_at_each(
 }
 
 fn struck_by_all(rt: &impl Abort, alloc: Global, case: &Case) -> Result<(), Fail> {
-    for left in [Left::Seed(7)] {
-        for kind in [ArmKind::Cut] {
+    for left in REMAINS {
+        for kind in [ArmKind::Cut, ArmKind::Fail] {
             let count = struck_at_each(rt, alloc, case, kind, left)?;
             assert!(rt; count > 20, "{count}");
         }
@@ -228,7 +244,19 @@ fn swept(rt: &impl Abort, alloc: Global, page: u32, unit: u32, second: bool) -> 
 }
 
 #[test]
-fn no_strike_loses_what_was_answered(rt: HostRuntime) -> Result<(), Fail> {
+fn no_strike_loses_short_pages(rt: HostRuntime) -> Result<(), Fail> {
+    swept(&rt, rt.alloc(), 512, 1, false)?;
+    swept(&rt, rt.alloc(), 512, 1, true)?;
+    swept(&rt, rt.alloc(), 512, 8, false)?;
+    swept(&rt, rt.alloc(), 512, 8, true)?;
+    Ok(())
+}
+
+#[test]
+fn no_strike_loses_long_pages(rt: HostRuntime) -> Result<(), Fail> {
+    swept(&rt, rt.alloc(), 4096, 1, false)?;
+    swept(&rt, rt.alloc(), 4096, 1, true)?;
     swept(&rt, rt.alloc(), 4096, 8, false)?;
+    swept(&rt, rt.alloc(), 4096, 8, true)?;
     Ok(())
 }
