@@ -12,13 +12,12 @@ mod costs;
 mod cuts;
 mod sweep;
 
-use crate::primary::{confirm, is_confirmed};
 use crate::states::{Chunked, Idle, Lost, Mounted, Receiving, Unmounted, UploadFault, Whole};
+use sha2::{Digest, Sha256};
 use smp_flash::{Arm, ArmKind, CallFault, Flash, Geometry, Layout, Left, MemFlash, Region};
 use smp_gate::banks_fit;
 use smp_model::{Announcement, Mark, Version, make_image};
 use smp_progress::Progress;
-use sha2::{Digest, Sha256};
 use smp_slot::{put, slots_fit, tail_is_clean};
 use std::alloc::{AllocError, Global};
 use std::test::Fail;
@@ -59,7 +58,7 @@ pub enum Seen {
 }
 
 /// The regions of a state.
-fn layout_of(state: &Mounted) -> Layout
+pub fn layout_of(state: &Mounted) -> Layout
     ensures { result ≡ (known_mounted state.now).layout }
 {
     match state {
@@ -129,7 +128,9 @@ pub fn mount(board: Board) -> Result<Bench, Stopped>
     ensures says { IfOk result (λ bench. IfSome (mem_state bench.flash).bytes (Says (known_mounted bench.state))) }
 {
     let Board {
-        mut flash, layout, ..
+        mut flash,
+        layout,
+        ..
     } = board;
     match Unmounted::new(layout).mount(&mut flash) {
         Ok(state) => Ok(Bench {
@@ -142,11 +143,7 @@ pub fn mount(board: Board) -> Result<Bench, Stopped>
 }
 
 /// Chooses an upload where there is none.
-fn choose_first(
-    flash: MemFlash,
-    idle: Idle,
-    announcement: Announcement,
-) -> Result<Bench, Stopped>
+fn choose_first(flash: MemFlash, idle: Idle, announcement: Announcement) -> Result<Bench, Stopped>
     requires sizes { geometry_of idle.layout ≡ (mem_state flash).geometry }
     requires says { IfSome (mem_state flash).bytes (Says (known_idle idle)) }
     requires least { 32 ≤ announcement.length }
@@ -188,11 +185,7 @@ fn choose_anew(
 }
 
 /// Chooses an upload where another is complete.
-fn choose_next(
-    flash: MemFlash,
-    whole: Whole,
-    announcement: Announcement,
-) -> Result<Bench, Stopped>
+fn choose_next(flash: MemFlash, whole: Whole, announcement: Announcement) -> Result<Bench, Stopped>
     requires sizes { geometry_of whole.layout ≡ (mem_state flash).geometry }
     requires says { IfSome (mem_state flash).bytes (Says (known_whole whole)) }
     requires least { 32 ≤ announcement.length }
@@ -234,11 +227,7 @@ pub fn choose(bench: Bench, announcement: Announcement) -> Result<Bench, Stopped
 }
 
 /// Stores a part of an upload under way.
-fn store_part(
-    flash: MemFlash,
-    receiving: Receiving,
-    bytes: &[u8],
-) -> Result<Bench, Stopped>
+fn store_part(flash: MemFlash, receiving: Receiving, bytes: &[u8]) -> Result<Bench, Stopped>
     requires sizes { geometry_of receiving.layout ≡ (mem_state flash).geometry }
     requires says { IfSome (mem_state flash).bytes (Says (known_receiving receiving)) }
     requires fits { receiving.offset + length bytes.now ≤ receiving.announcement.length }
@@ -279,8 +268,7 @@ pub fn part(bench: Bench, bytes: &[u8]) -> Result<Bench, Stopped>
     } = bench;
     match state {
         Mounted::Receiving(receiving)
-            if bytes.len() <= (receiving.announcement.length - receiving.offset) as usize =>
-        {
+            if bytes.len() <= (receiving.announcement.length - receiving.offset) as usize => {
             store_part(flash, receiving, bytes)
         }
         state => Err(refused(Bench {
@@ -405,7 +393,9 @@ pub fn arm(board: Board, arm: Arm) -> Board
     requires { 1 ≤ arm.after }
 {
     let Board {
-        mut flash, layout, ..
+        mut flash,
+        layout,
+        ..
     } = board;
     flash.power_on();
     flash.arm(arm);
@@ -455,7 +445,7 @@ pub fn slot_bytes(alloc: Global, board: &mut Board, count: u32) -> Result<Vec<u8
 }
 
 /// Writes an image to the start of the primary slot.
-fn put_image(flash: &mut MemFlash, layout: &Layout, image: &[u8]) -> Result<bool, CallFault>
+pub fn put_image(flash: &mut MemFlash, layout: &Layout, image: &[u8]) -> Result<bool, CallFault>
     requires sizes { geometry_of layout.now ≡ (mem_state flash.old).geometry }
     ensures sizes { OnOk result (geometry_of layout.now ≡ (mem_state flash.new).geometry) }
 {
@@ -494,7 +484,7 @@ fn regions(sizes: Geometry, second: bool) -> Layout
 }
 
 /// A new flash, and the regions of an image.
-fn fresh(alloc: Global, sizes: Geometry, second: bool) -> Result<(MemFlash, Layout), AllocError>
+pub fn fresh(alloc: Global, sizes: Geometry, second: bool) -> Result<(MemFlash, Layout), AllocError>
     requires { IsTrue (is_lawful sizes) }
     ensures sizes { IfOk result (λ made. geometry_of made.1 ≡ (mem_state made.0).geometry) }
     ensures erased { IfOk result (λ made. IfSome (mem_state made.0).bytes (Fresh (progress_of made.1))) }
@@ -570,6 +560,16 @@ impl Plan {
         self.sizes.get(turn % 7).copied().unwrap_or(64)
     }
 
+    /// Whether this upload is under way and has so many bytes.
+    fn is_at(&self, state: &Mounted, until: u32) -> bool {
+        match look_at(state) {
+            Seen::Receiving(offset, announcement) => {
+                announcement == self.announcement && until <= offset
+            }
+            _ => false,
+        }
+    }
+
     /// Whether nothing is left to do.
     pub fn is_done(&self, state: &Mounted) -> bool {
         match look_at(state) {
@@ -600,19 +600,31 @@ fn step(bench: Bench, plan: &Plan, turn: usize) -> Result<Bench, Stopped>
     }
 }
 
-/// Uploads the file, or the rest of it, and marks it.
-pub fn run(bench: Bench, plan: &Plan) -> Result<Bench, Stopped>
+/// Uploads the file, or the rest of it, and marks it; or stops where so many bytes are accepted. It does not go on behind a wrong
+/// digest.
+pub fn run_to(bench: Bench, plan: &Plan, until: u32) -> Result<Bench, Stopped>
     requires says { IfSome (mem_state bench.flash).bytes (Says (known_mounted bench.state)) }
     ensures says { IfOk result (λ bench. IfSome (mem_state bench.flash).bytes (Says (known_mounted bench.state))) }
 {
     let mut bench = bench;
     for turn in 0..1000 {
-        if plan.is_done(&bench.state) {
+        if plan.is_done(&bench.state) || plan.is_at(&bench.state, until) {
             return Ok(bench);
+        }
+        if bench.matched == Some(false) {
+            return Err(refused(bench));
         }
         bench = step(bench, plan, turn)?;
     }
     Err(refused(bench))
+}
+
+/// Uploads the file, or the rest of it, and marks it.
+pub fn run(bench: Bench, plan: &Plan) -> Result<Bench, Stopped>
+    requires says { IfSome (mem_state bench.flash).bytes (Says (known_mounted bench.state)) }
+    ensures says { IfOk result (λ bench. IfSome (mem_state bench.flash).bytes (Says (known_mounted bench.state))) }
+{
+    run_to(bench, plan, u32::MAX)
 }
 
 /// What a call leaves that is to go through.
@@ -634,6 +646,55 @@ pub fn started(alloc: Global, sizes: Geometry, second: bool) -> Result<Bench, Fa
     let board = formatted(alloc, sizes, second)?;
     went(mount(board))
 }
+
+/// A file of these bytes, announced without a digest.
+pub fn plain(alloc: Global, count: usize, first: u8, size: usize) -> Result<Plan, Fail> {
+    let bytes = text(alloc, count, first)?;
+    let announcement = Announcement {
+        length: bytes.len().min(1_000_000) as u32,
+        digest: None,
+    };
+    Ok(Plan {
+        bytes,
+        announcement,
+        sizes: [size; 7],
+        mark: None,
+    })
+}
+
+/// What a flash counted: writes and erases, of these erases, and bytes read.
+#[derive(Clone, Copy, Debug, PartialEq, Eq)]
+pub struct Cost {
+    pub changes: u64,
+    pub erases: u64,
+    pub reads: u64,
+}
+
+pub fn counted(flash: &MemFlash) -> Cost {
+    Cost {
+        changes: flash.changes(),
+        erases: flash.erases(),
+        reads: flash.read_bytes(),
+    }
+}
+
+/// What was counted since then.
+pub fn since(before: Cost, flash: &MemFlash) -> Cost {
+    let now = counted(flash);
+    Cost {
+        changes: now.changes.saturating_sub(before.changes),
+        erases: now.erases.saturating_sub(before.erases),
+        reads: now.reads.saturating_sub(before.reads),
+    }
+}
+
+/// The sizes of a flash of one image, with pages of 512 bytes and write units of 8.
+pub const DEFAULT: Geometry = Geometry {
+    page: 512,
+    unit: 8,
+    slot_pages: 16,
+    images: 1,
+};
 
 /// The sizes of a flash of two images.
 pub fn sizes(page: u32, unit: u32) -> Geometry {

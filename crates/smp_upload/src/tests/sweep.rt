@@ -6,8 +6,8 @@ ghost use Rattle.smp_flash.specs.Memory.{mem_state};
 ghost use Rattle.smp_upload.specs.States.{Says, known_mounted};
 
 use crate::tests::{
-    Bench, Board, Plan, Seen, Stopped, arm, arm_state, calm, look_at, mount, planned, run,
-    sizes, slot_bytes, started, unmount, went,
+    Bench, Board, Plan, Seen, Stopped, arm, arm_state, calm, look_at, mount, planned, run, sizes,
+    slot_bytes, started, unmount, went,
 };
 use smp_flash::{Arm, ArmKind, Geometry, Left, Region};
 use smp_model::Mark;
@@ -55,8 +55,14 @@ fn holds(alloc: Global, board: &mut Board, plan: &Plan, count: u32) -> Result<bo
 
 /// Whether the rest of the page behind an offset is FF.
 fn is_clean(alloc: Global, board: &mut Board, offset: u32, page: u32) -> Result<bool, Fail> {
-    let end = (offset / page.max(1)).saturating_add(1).saturating_mul(page);
-    let end = if offset % page.max(1) == 0 { offset } else { end };
+    let end = (offset / page.max(1))
+        .saturating_add(1)
+        .saturating_mul(page);
+    let end = if offset % page.max(1) == 0 {
+        offset
+    } else {
+        end
+    };
     let held = slot_bytes(alloc, board, end)?;
     let rest = held.get(offset as usize..).unwrap_or(&[]);
     Ok(held.len() == end as usize && rest.iter().all(|byte| *byte == 0xff))
@@ -103,7 +109,10 @@ fn check_found(
         Seen::Idle => {}
         Seen::Receiving(offset, _) => {
             assert!(rt; holds(alloc, &mut board, &case.new, offset)?, "{seen:?}");
-            assert!(rt; is_clean(alloc, &mut board, offset, case.sizes.page)?, "{seen:?}");
+            assert!(rt;
+                is_clean(alloc, &mut board, offset, case.sizes.page)?,
+                "{seen:?}"
+            );
         }
         Seen::Whole(announcement, _) | Seen::Pending(announcement, _) => {
             let plan = if announcement == case.new.announcement {
@@ -111,7 +120,10 @@ fn check_found(
             } else {
                 &case.old
             };
-            assert!(rt; holds(alloc, &mut board, plan, announcement.length)?, "{seen:?}");
+            assert!(rt;
+                holds(alloc, &mut board, plan, announcement.length)?,
+                "{seen:?}"
+            );
         }
     }
     Ok(board)
