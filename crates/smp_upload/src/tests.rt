@@ -1,6 +1,6 @@
 // What no clause says: worked cases, exact counts of operations and bytes read, and what each cut and each failure leaves, with
 // real flashes in memory.
-ghost use Rattle.std.specs.Prelude.{◌≡◌, ◌+◌, ◌<◌, ◌≤◌, ◌^◌, length, IsTrue, OnOk, IfOk, IfSome, IsSome};
+ghost use Rattle.std.specs.Prelude.{◌≡◌, ◌+◌, ◌<◌, ◌≤◌, length, IsTrue, OnOk, IfOk, IfSome, IsSome};
 ghost use Rattle.smp_flash.specs.Geometry.{is_lawful, slot_size};
 ghost use Rattle.smp_flash.specs.Layout.{geometry_of, progress_of};
 ghost use Rattle.smp_flash.specs.Memory.{mem_state};

@@ -1,5 +1,5 @@
 // How many operations and bytes read each call takes.
-ghost use Rattle.std.specs.Prelude.{◌≡◌, IfOk, IfSome};
+ghost use Rattle.std.specs.Prelude.{IfOk, IfSome};
 ghost use Rattle.smp_flash.specs.Memory.{mem_state};
 ghost use Rattle.smp_upload.specs.States.{Says, known_mounted};
 

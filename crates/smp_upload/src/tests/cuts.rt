@@ -1,5 +1,5 @@
 // Worked cuts of one part, of its record and of its rescue, and what the next start finds.
-ghost use Rattle.std.specs.Prelude.{◌≡◌, ◌≤◌, IsTrue, IfOk, IfSome};
+ghost use Rattle.std.specs.Prelude.{◌≡◌, IfOk, IfSome};
 ghost use Rattle.smp_flash.specs.Memory.{mem_state};
 ghost use Rattle.smp_upload.specs.States.{Says, known_mounted};
 
@@ -9,7 +9,7 @@ use crate::tests::{
     planned, run, slot_bytes, started, unmount, went,
 };
 use smp_flash::{Arm, ArmKind, Left, Operation, Region};
-use smp_model::{Announcement, Mark};
+use smp_model::Mark;
 use std::alloc::Global;
 use std::process::Abort;
 use std::test::Fail;

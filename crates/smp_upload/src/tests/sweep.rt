@@ -1,6 +1,5 @@
 // An upload that is struck at each of its operations, found again, struck in the recovery too, and then brought to its end.
 ghost use Rattle.std.specs.Prelude.{◌≡◌, ◌≤◌, IsTrue, IfOk, IfSome};
-ghost use Rattle.std.specs.Option.{ForSome};
 ghost use Rattle.smp_flash.specs.Geometry.{is_lawful};
 ghost use Rattle.smp_flash.specs.Memory.{mem_state};
 ghost use Rattle.smp_upload.specs.States.{Says, known_mounted};
