@@ -670,6 +670,7 @@ pub struct Cost {
     pub reads: u64,
 }
 
+/// What a flash counted from its beginning on.
 pub fn counted(flash: &MemFlash) -> Cost {
     Cost {
         changes: flash.changes(),
