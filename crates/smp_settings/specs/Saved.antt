@@ -91,6 +91,10 @@ pub record SavesCheaply (layout : Layout) (running : List Setting) (before now :
   pub nothing : SavedAlready layout running old → (new ≡ old) × ChangesAtMost 0 0 before now
   pub cell : OneCellIsEnough layout running before now old new
 
+-- the side stays: nothing differs, or one cell is enough
+abbrev pub KeepsSide : Layout → List Setting → List ℕ → Type 0
+KeepsSide layout running bytes = SavedAlready layout running bytes ⊎ OneCellSaves layout running bytes
+
 -- the bank's other side is the newest now, with the stored form of these settings and no cells
 pub record SavedAnew (layout : Layout) (running : List Setting) (old new : List ℕ) : Type 0 where
   pub content : content_of (settings_of layout) cell_length new ≡ Some (just (stored_form running))

@@ -11,7 +11,7 @@ ghost use Rattle.smp_model.specs.SettingsGroup.{writes_setting};
 ghost use Rattle.smp_settings.specs.Cells.{cell_length};
 ghost use Rattle.smp_settings.specs.Found.{HoldsBank};
 ghost use Rattle.smp_settings.specs.Places.{CellSaves};
-ghost use Rattle.smp_settings.specs.Saved.{SavedStand, SavedReadable, SavedAlready, SavedOrThis, SavedAnew, SavesCheaply, OneCellIsEnough, ElseAnew, IsWorn, AimsAtSettings, SaysSaved, SettingsSay, after_write, erases_needed, opening_reads, written_response};
+ghost use Rattle.smp_settings.specs.Saved.{SavedStand, SavedReadable, SavedAlready, SavedOrThis, SavedAnew, SavesCheaply, OneCellIsEnough, OneCellSaves, KeepsSide, ElseAnew, IsWorn, AimsAtSettings, SaysSaved, SettingsSay, after_write, erases_needed, opening_reads, written_response};
 
 use crate::cell::CELL;
 use crate::difference::{is_same, write_change};
@@ -175,6 +175,7 @@ impl Settings {
         requires says { IfSome (F.state flash.old).bytes (SettingsSay self.old) }
         ensures calls { Calls (bank_spots (settings_of self.old.layout)) (bank_end result) (F.state flash.old) (F.state flash.new) }
         ensures reads { self.old.bank.sure ≡ true → ReadsAtMost 4096 (F.state flash.old).bytes_read (F.state flash.new).bytes_read }
+        ensures spared { self.old.bank.sure ≡ true → IfSome (F.state flash.old).bytes (λ held. KeepsSide self.old.layout self.old.running held → ReadsAtMost 0 (F.state flash.old).bytes_read (F.state flash.new).bytes_read) }
         ensures changes { ChangesAtMost 2 8 (F.state flash.old).changes (F.state flash.new).changes }
         ensures erases { self.old.bank.sure ≡ true → IfSome (F.state flash.old).bytes (λ held. ChangesAtMost 2 (erases_needed (F.state flash.old).geometry.page self.old.bank held) (F.state flash.old).changes (F.state flash.new).changes) }
         ensures either { Told (SavedOrThis self.old.layout self.old.running) (F.state flash.old).bytes (F.state flash.new).bytes }
@@ -252,6 +253,7 @@ impl Settings {
         requires sure { self.old.bank.sure ≡ true }
         ensures calls { Calls (bank_spots (settings_of self.old.layout)) (bank_end result) (F.state flash.old) (F.state flash.new) }
         ensures reads { ReadsAtMost 4096 (F.state flash.old).bytes_read (F.state flash.new).bytes_read }
+        ensures spared { IfSome (F.state flash.old).bytes (λ held. KeepsSide self.old.layout self.old.running held → ReadsAtMost 0 (F.state flash.old).bytes_read (F.state flash.new).bytes_read) }
         ensures changes { ChangesAtMost 2 8 (F.state flash.old).changes (F.state flash.new).changes }
         ensures erases { IfSome (F.state flash.old).bytes (λ held. ChangesAtMost 2 (erases_needed (F.state flash.old).geometry.page self.old.bank held) (F.state flash.old).changes (F.state flash.new).changes) }
         ensures either { Told (SavedOrThis self.old.layout self.old.running) (F.state flash.old).bytes (F.state flash.new).bytes }
@@ -288,6 +290,7 @@ impl Settings {
         requires differ { self.old.running ≢ self.old.saved }
         ensures calls { Calls (bank_spots (settings_of self.old.layout)) (bank_end result) (F.state flash.old) (F.state flash.new) }
         ensures reads { ReadsAtMost 4096 (F.state flash.old).bytes_read (F.state flash.new).bytes_read }
+        ensures spared { IfSome (F.state flash.old).bytes (λ held. OneCellSaves self.old.layout self.old.running held → ReadsAtMost 0 (F.state flash.old).bytes_read (F.state flash.new).bytes_read) }
         ensures changes { ChangesAtMost 2 8 (F.state flash.old).changes (F.state flash.new).changes }
         ensures erases { IfSome (F.state flash.old).bytes (λ held. ChangesAtMost 2 (erases_needed (F.state flash.old).geometry.page self.old.bank held) (F.state flash.old).changes (F.state flash.new).changes) }
         ensures either { Told (SavedOrThis self.old.layout self.old.running) (F.state flash.old).bytes (F.state flash.new).bytes }
