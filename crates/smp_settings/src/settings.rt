@@ -88,6 +88,7 @@ impl Settings {
         ensures calls { Calls (bank_spots (settings_of layout.now)) (bank_end result) (F.state flash.old) (F.state flash.new) }
         ensures kept { (F.state flash.new).bytes ≡ (F.state flash.old).bytes }
         ensures reads { IfOk result (λ s. ReadsAtMost (opening_reads s.bank) (F.state flash.old).bytes_read (F.state flash.new).bytes_read) }
+        ensures most_read { IfSome (F.state flash.old).bytes (λ held. ReadsAtMost 8208 (F.state flash.old).bytes_read (F.state flash.new).bytes_read) }
         ensures changes { ChangesAtMost 0 0 (F.state flash.old).changes (F.state flash.new).changes }
         ensures settings { IfOk result (λ s. (s.layout ≡ layout.now) × (s.bank.sure ≡ true) × (s.running ≡ s.saved)) }
         ensures says { IfOk result (λ s. IfSome (F.state flash.new).bytes (SettingsSay s)) }
@@ -143,6 +144,7 @@ impl Settings {
         ensures calls { Calls (bank_spots (settings_of self.old.layout)) (bank_end result) (F.state flash.old) (F.state flash.new) }
         ensures kept { (F.state flash.new).bytes ≡ (F.state flash.old).bytes }
         ensures reads { OnOk result (ReadsAtMost (opening_reads self.new.bank) (F.state flash.old).bytes_read (F.state flash.new).bytes_read) }
+        ensures most_read { IfSome (F.state flash.old).bytes (λ held. ReadsAtMost 8208 (F.state flash.old).bytes_read (F.state flash.new).bytes_read) }
         ensures changes { ChangesAtMost 0 0 (F.state flash.old).changes (F.state flash.new).changes }
         ensures says { IfSome (F.state flash.new).bytes (SettingsSay self.new) }
         ensures layout { self.new.layout ≡ self.old.layout }
@@ -176,6 +178,7 @@ impl Settings {
         ensures calls { Calls (bank_spots (settings_of self.old.layout)) (bank_end result) (F.state flash.old) (F.state flash.new) }
         ensures reads { self.old.bank.sure ≡ true → ReadsAtMost 4096 (F.state flash.old).bytes_read (F.state flash.new).bytes_read }
         ensures spared { self.old.bank.sure ≡ true → IfSome (F.state flash.old).bytes (λ held. KeepsSide self.old.layout self.old.running held → ReadsAtMost 0 (F.state flash.old).bytes_read (F.state flash.new).bytes_read) }
+        ensures most_read { IfSome (F.state flash.old).bytes (λ held. ReadsAtMost 12304 (F.state flash.old).bytes_read (F.state flash.new).bytes_read) }
         ensures changes { ChangesAtMost 2 8 (F.state flash.old).changes (F.state flash.new).changes }
         ensures erases { self.old.bank.sure ≡ true → IfSome (F.state flash.old).bytes (λ held. ChangesAtMost 2 (erases_needed (F.state flash.old).geometry.page self.old.bank held) (F.state flash.old).changes (F.state flash.new).changes) }
         ensures either { Told (SavedOrThis self.old.layout self.old.running) (F.state flash.old).bytes (F.state flash.new).bytes }
@@ -213,6 +216,7 @@ impl Settings {
         requires says { IfSome (F.state flash.old).bytes (SettingsSay self.old) }
         ensures calls { Calls (bank_spots (settings_of self.old.layout)) (bank_end result) (F.state flash.old) (F.state flash.new) }
         ensures kept { (F.state flash.new).bytes ≡ (F.state flash.old).bytes }
+        ensures most_read { IfSome (F.state flash.old).bytes (λ held. ReadsAtMost 8208 (F.state flash.old).bytes_read (F.state flash.new).bytes_read) }
         ensures changes { ChangesAtMost 0 0 (F.state flash.old).changes (F.state flash.new).changes }
         ensures says { IfSome (F.state flash.new).bytes (SettingsSay self.new) }
         ensures layout { self.new.layout ≡ self.old.layout }

@@ -7,6 +7,7 @@ use Rattle.smp_flash.specs.declared.layout.Layout.{Layout}
 use Rattle.smp_flash.proofs.Passing.{Calls-after, changes_add}
 use Rattle.smp_gate.specs.Fault.{bank_end}
 use Rattle.smp_settings.specs.Saved.{SettingsState, KeepsSide}
+use Rattle.smp_settings.proofs.Opening.{then_read}
 use Rattle.smp_settings.proofs.Storing.{cheap_after, last_told, worn_before, pays_before, ok_weaker, ok_fresh, err_weaker, refused_after}
 use Rattle.smp_settings.proofs.settings.Settings.save.Goals as goal
 
@@ -54,3 +55,6 @@ returns-in-Ok-clause-spared g c = λ sure.
     let after = (g.F.Flash.state c.store.new.flash).bytes_read in
     subst (λ (f : FlashState). IfSome f.bytes (λ held. KeepsSide c.args.self.now.layout c.args.self.now.running held → ReadsAtMost 0 f.bytes_read after)) same.2
     (subst (λ (s : SettingsState). IfSome (g.F.Flash.state c.make_sure.new.flash).bytes (λ held. KeepsSide s.layout s.running held → ReadsAtMost 0 (g.F.Flash.state c.make_sure.new.flash).bytes_read after)) same.1 c.store.ensures.spared)
+
+pub returns-in-Ok-clause-most_read : goal.returns-in-Ok-clause-most_read
+returns-in-Ok-clause-most_read g c = then_read 8208 4096 _ _ _ _ c.make_sure.ensures.most_read c.store.ensures.reads
