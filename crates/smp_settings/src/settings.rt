@@ -6,12 +6,12 @@ ghost use Rattle.smp_flash.specs.Layout.{geometry_of, settings_of, bank_spots};
 ghost use Rattle.smp_gate.specs.Fault.{bank_end};
 ghost use Rattle.smp_gate.specs.Newest.{Fresh, AgesAtMost, SameNewest, IsFull};
 ghost use Rattle.smp_gate.specs.Side.{whole_side};
-ghost use Rattle.smp_model.specs.Settings.{stored_form, value_of, deleted_setting, is_within_limits};
-ghost use Rattle.smp_model.specs.SettingsGroup.{writes_setting};
+ghost use Rattle.smp_model.specs.Settings.{stored_form, value_of, deleted_setting, is_setting_name, is_within_limits};
+ghost use Rattle.smp_model.specs.SettingsGroup.{writes_setting, deletes_setting};
 ghost use Rattle.smp_settings.specs.Cells.{cell_length};
 ghost use Rattle.smp_settings.specs.Found.{HoldsBank};
 ghost use Rattle.smp_settings.specs.Places.{CellSaves};
-ghost use Rattle.smp_settings.specs.Saved.{SavedStand, SavedReadable, SavedAlready, SavedOrThis, SavedAnew, SavesCheaply, OneCellIsEnough, OneCellSaves, KeepsSide, ElseAnew, IsWorn, AimsAtSettings, SaysSaved, SettingsSay, after_write, erases_needed, opening_reads, written_response};
+ghost use Rattle.smp_settings.specs.Saved.{SavedStand, SavedReadable, SavedAlready, SavedOrThis, SavedAnew, SavesCheaply, OneCellIsEnough, OneCellSaves, KeepsSide, ElseAnew, IsWorn, AimsAtSettings, SaysSaved, SettingsSay, after_write, erases_needed, opening_reads, written_response, deleted_response};
 
 use crate::cell::CELL;
 use crate::difference::{is_same, write_change};
@@ -132,6 +132,7 @@ impl Settings {
     /// Deletes a name. False exactly where it does not run.
     pub fn delete(&mut self, name: &str) -> bool
         ensures there { IsTrue result ↔ IsSome (value_of name.now self.old.running) }
+        ensures responded { IsTrue (is_setting_name name.now) → deletes_setting self.old.running name.now ≡ deleted_response result name.now }
         ensures deleted { self.new ≡ record self.old { running = deleted_setting name.now self.old.running } }
     {
         self.running.remove(name)
