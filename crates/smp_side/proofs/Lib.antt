@@ -1,3 +1,4 @@
+pub mod Spots
 pub mod Answering
 pub mod Asked
 pub mod Parting

@@ -28,7 +28,7 @@ use Rattle.smp_upload.specs.declared.states.Chunked.{Chunked}
 use Rattle.smp_upload.specs.declared.states.Lost.{Lost}
 use Rattle.smp_upload.specs.declared.states.Mounted.{Mounted}
 use Rattle.smp_upload.proofs.Composing.{Done-is, Done-wider, Moved-wider, Moved-first}
-use Rattle.smp_upload.proofs.Looks.{upload_covers}
+use Rattle.smp_side.proofs.Spots.{upload_covers}
 use Rattle.smp_upload.proofs.Sides.{OneSide, says_knows}
 use Rattle.smp_side.specs.Held.{steps_by, Tells, Answers, Broken, Caused, responds_after}
 use Rattle.smp_side.specs.declared.held.Held.TheVariants as helds

@@ -36,7 +36,7 @@ use Rattle.smp_upload.specs.declared.states.Pending.{Pending}
 use Rattle.smp_upload.specs.declared.states.UploadFault.{UploadFault}
 use Rattle.smp_upload.specs.declared.states.UploadFault.TheVariants as faults
 use Rattle.smp_upload.proofs.Composing.{Done-Moved, Done-is, Moved-wider}
-use Rattle.smp_upload.proofs.Looks.{first_covers, primary_Calls}
+use Rattle.smp_side.proofs.Spots.{primary_Calls, primary_covers}
 use Rattle.smp_upload.proofs.Sides.{OneSide, says_shows, says_knows}
 use Rattle.smp_flash.proofs.Passing.{Covers}
 use Rattle.smp_side.specs.Held.{steps_by, Answers, Broken, Caused, response_of}
@@ -322,9 +322,8 @@ pub confirm_failed : OneSide → (m : Mounted) (layout : Layout) (confirm confir
 confirm_failed one m layout confirm confirmed fault handed a b c e f lay says calls kept is m2 broken =
     let known = known_mounted m in
     let l = known.layout in
-    let primary : Covers (mount_spots layout) (area_spot (slot_of layout 0) ∷ []) = first_covers (slot_of layout 0).at (slot_of layout 0).length (upload_spots layout) in
     let moved : Moved l (mount_spots l) 0 (one_step Confirm) (fault_end fault) b c =
-    subst (λ (k : Layout). Moved k (mount_spots k) 0 (one_step Confirm) (fault_end fault) b c) lay (Moved-wider layout (mount_spots layout) (area_spot (slot_of layout 0) ∷ []) 0 (one_step Confirm) (fault_end fault) b c primary m2) in
+    subst (λ (k : Layout). Moved k (mount_spots k) 0 (one_step Confirm) (fault_end fault) b c) lay (Moved-wider layout (mount_spots layout) (area_spot (slot_of layout 0) ∷ []) 0 (one_step Confirm) (fault_end fault) b c (primary_covers layout) m2) in
     let all : Moved l (mount_spots l) 0 (steps_by confirmed_now) (fault_end fault) a c = Done-Moved l (mount_spots l) 0 0 no_steps (one_step Confirm) (fault_end fault) a b c (read_done one known layout a b lay says calls kept) moved in
     answers_as l 0 confirmed_now (confirming confirm) handed a c (same_set layout l confirm confirmed false (side_responds said.empty (Confirm ∷ [])) a.bytes lay e f refl is)
     (broken_off l 0 confirmed_now handed (of_call fault) a c (subst (λ (k : Layout). Broken k (of_call fault) handed) lay broken)
