@@ -3,7 +3,7 @@ use Rattle.std.proofs.Common.{◌≡◌, ◌≤◌, ℕ, Option, Some, None, Lis
 use Rattle.std.specs.Prelude.{IfSome, OnOk, IfOk, option_map}
 use Rattle.smp_flash.specs.Area.{Told, Keeps}
 use Rattle.smp_flash.specs.Calls.{Calls}
-use Rattle.smp_flash.specs.Layout.{area_spot, slot_of, progress_of}
+use Rattle.smp_flash.specs.Layout.{area_spot, slot_of, progress_of, upload_spots}
 use Rattle.smp_flash.specs.State.{FlashState, End, fault_end}
 use Rattle.smp_flash.specs.State.End.{Went}
 use Rattle.smp_flash.specs.declared.flash.CallFault.{CallFault}
@@ -30,7 +30,6 @@ use Rattle.smp_upload.specs.States.{Says, known_mounted}
 use Rattle.smp_upload.specs.declared.states.Lost.{Lost}
 use Rattle.smp_upload.specs.declared.states.Mounted.{Mounted}
 use Rattle.smp_upload.specs.declared.states.UploadFault.{UploadFault}
-use Rattle.smp_upload.proofs.Looks.{primary_Calls}
 use Rattle.smp_side.specs.Held.{Broken, Caused, held_layout, HeldSays}
 use Rattle.smp_side.specs.Listing.{IsPair}
 use Rattle.smp_side.specs.declared.held.Held.{Held}
@@ -46,7 +45,7 @@ use Rattle.smp_device.specs.declared.images.Replied.{Replied}
 use Rattle.smp_device.specs.declared.settled.Settled.{Settled}
 use Rattle.smp_device.proofs.Asking.{zero_says, one_says, lost_says, first_says, second_says, other_kept, zero_one, one_zero, no_side, told_here}
 use Rattle.smp_device.proofs.Lifting.{side_here}
-use Rattle.smp_device.proofs.Parting.{apart_of, covers_at}
+use Rattle.smp_device.proofs.Parting.{apart_of, covers_at, Covers-left}
 use Rattle.smp_device.proofs.Settlements.{after_settling, lost_first, lost_second}
 
 -- Mounting all.
@@ -117,7 +116,8 @@ told_same R (Some u) None f e = absurd (cc e)
 told_same R (Some u) (Some v) f e = let same : v ≡ u = cc e in subst (R u) (sym same) (f u)
 
 calls_at : (p : Places) (i : ℕ) (l : Layout) (end : End) (a b : FlashState) → place_at i p ≡ Some l → Calls (area_spot (slot_of l 0) ∷ []) end a b → Calls (spots_of p) end a b
-calls_at p i l end a b at calls = Calls-wider (spots_of p) (mount_spots l) end a b (covers_at p i l at) (primary_Calls l end a b calls)
+calls_at p i l end a b at calls = Calls-wider (spots_of p) (mount_spots l) end a b (covers_at p i l at)
+    (Calls-wider (mount_spots l) (area_spot (slot_of l 0) ∷ []) end a b (Covers-left (area_spot (slot_of l 0) ∷ []) (upload_spots l)) calls)
 
 -- the response is this reply, and no steps
 abbrev IsAlone : Places → (t : ℕ) → (AbstractDevice → Response) → Said → List ℕ → Type 0

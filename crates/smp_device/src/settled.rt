@@ -2,7 +2,7 @@
 
 ghost use Rattle.std.specs.Prelude.{◌≡◌, IfErr, IfOk, IfSome, OnOk};
 ghost use Rattle.smp_device.specs.Places.{ArePlaces, ImagesSay, places_of};
-ghost use Rattle.smp_device.specs.Settling.{SettledSay, Settles, Unsettled, settled_places};
+ghost use Rattle.smp_device.specs.Settling.{SettledSay, Settles, Unsettled, alone_settled, settled_places};
 
 use crate::images::{Images, Replied};
 use crate::laws::side_laws;
@@ -16,6 +16,17 @@ pub struct Settled {
     pub zero: Mounted,
     pub one: Option<Mounted>,
     pub target: u32,
+}
+
+/// The image of a device of one.
+fn alone(zero: Mounted, target: u32) -> Settled
+    ensures { result ≡ alone_settled zero target }
+{
+    Settled {
+        zero,
+        one: None,
+        target,
+    }
 }
 
 /// Mounts each image that is not mounted: image 0 first. One whose mount is broken off is not mounted, and the other is as it was
@@ -47,11 +58,7 @@ pub fn settle_all<F: Flash>(images: Images, flash: &mut F) -> Result<Settled, Re
         }
     };
     match one {
-        None => Ok(Settled {
-            zero,
-            one: None,
-            target,
-        }),
+        None => Ok(alone(zero, target)),
         Some(held) => match mounted(held, flash) {
             Ok(side) => Ok(Settled {
                 zero,

@@ -42,6 +42,7 @@ fn eight_files_are_held_to_their_ends(rt: HostRuntime) -> Result<(), Fail> {
             }
         }
         assert_eq!(rt; files.write("g", 0, Some(1), b"x"), Err(FileFault::NoFree));
+        assert_eq!(rt; files.write("g", 0, Some(0), b"x"), Err(FileFault::PastEnd));
         assert_eq!(rt;
             files.write("a", 16384, None, b"x"),
             Err(FileFault::PastEnd)
@@ -52,16 +53,23 @@ fn eight_files_are_held_to_their_ends(rt: HostRuntime) -> Result<(), Fail> {
     Ok(())
 }
 
-/// The lengths of names and of files at their limits.
+/// The lengths of names and of files at their limits, and which of two faults comes first.
 #[test]
 fn limits_are_met(rt: HostRuntime) -> Result<(), Fail> {
     let mut files = FileTable::reserve(rt.alloc())?;
     let name = "0123456789abcdef0123456789abcdef0123456789abcdef0123456789abcdef0";
+    let long = [7u8; 16386];
     let rows = [
         ("", 0, Some(1), b"".as_slice(), Err(FileFault::NameLength)),
-        (name, 0, Some(1), b"", Err(FileFault::NameLength)),
+        ("", 1, None, b"", Err(FileFault::NameLength)),
+        (name, 0, None, b"", Err(FileFault::NameLength)),
         (&name[1..], 0, Some(16384), b"", Ok(0)),
-        ("a", 0, Some(16385), b"", Err(FileFault::TooLong)),
+        (&name[2..], 0, Some(16383), b"", Ok(0)),
+        ("a", 0, None, &long, Err(FileFault::NoLength)),
+        ("a", 0, Some(16385), &long, Err(FileFault::TooLong)),
+        ("a", 0, Some(16384), &long[1..], Err(FileFault::PastEnd)),
+        ("a", 0, Some(16384), &long[2..], Ok(16384)),
+        ("a", 16384, None, b"", Ok(16384)),
         ("a", 0, Some(3), b"abc", Ok(3)),
     ];
     for (name, off, len, part, want) in rows {

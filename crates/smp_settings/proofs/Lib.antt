@@ -5,6 +5,7 @@ pub mod Forms
 pub mod Lasting
 pub mod Limits
 pub mod Naming
+pub mod Opening
 pub mod Saving
 pub mod Storing
 pub mod Tables

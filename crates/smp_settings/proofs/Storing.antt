@@ -20,7 +20,7 @@ use Rattle.smp_model.specs.declared.setting.Setting.{Setting}
 use Rattle.smp_model.specs.Settings.{stored_form, is_within_limits}
 use Rattle.smp_settings.specs.Cells.{CellChange, cell_length}
 use Rattle.smp_settings.specs.Places.{IsOneChange, CellSaves}
-use Rattle.smp_settings.specs.Saved.{SavedStand, SavedReadable, SavedOrThis, SavedAlready, OneCellSaves, OneCellIsEnough, SavesCheaply, SavedAnew, ElseAnew, IsWorn, AimsAtSettings, SettingsState, SettingsSay}
+use Rattle.smp_settings.specs.Saved.{SavedStand, SavedReadable, SavedOrThis, SavedAlready, OneCellSaves, KeepsSide, OneCellIsEnough, SavesCheaply, SavedAnew, ElseAnew, IsWorn, AimsAtSettings, SettingsState, SettingsSay}
 use Rattle.smp_settings.proofs.Saving.{cell_saved, cell_leaves, says_after}
 
 some_settings : (xs ys : List Setting) → Some xs ≡ Some ys → xs ≡ ys
@@ -158,6 +158,25 @@ pub full_cell_told : (s : SettingsState) (R : List ℕ → List ℕ → Type 0) 
     → Told R x y → Told (OneCellIsEnough s.layout s.running before now) x y
 full_cell_told s R before now x y full told =
     Told-with (IsFull (settings_of s.layout) cell_length) R (OneCellIsEnough s.layout s.running before now) x y (λ u v h r one. absurd (one.free h)) full told
+
+-- what a save that keeps its side is spared
+pub no_cell_spared : (s : SettingsState) (A : Type 0) (x : Option (List ℕ)) → s.bank.sure ≡ true → IfSome x (SettingsSay s) → ((change : CellChange) → IsOneChange change s.saved s.running → ⊥)
+    → IfSome x (λ held. OneCellSaves s.layout s.running held → A)
+no_cell_spared s A x sure says none =
+    IfSome-map (SettingsSay s) (λ held. OneCellSaves s.layout s.running held → A) x (λ u h one. absurd (none one.change (same_change s u sure h one))) says
+
+pub all_spared : (R : List ℕ → Type 0) (A : Type 0) (x : Option (List ℕ)) → A → IfSome x (λ held. R held → A)
+all_spared R A None a = tt
+all_spared R A (Some u) a = λ r. a
+
+pub side_spared : (s : SettingsState) (A : Type 0) (x : Option (List ℕ)) → s.bank.sure ≡ true → s.running ≢ s.saved → IfSome x (SettingsSay s) → IfSome x (λ held. OneCellSaves s.layout s.running held → A)
+    → IfSome x (λ held. KeepsSide s.layout s.running held → A)
+side_spared s A None sure differ says f = tt
+side_spared s A (Some u) sure differ says f = λ keeps.
+    elim keeps [
+      | inl already ↦ absurd (differ (one_saved s.layout s.running s.saved u already (says.saved sure)))
+      | inr one ↦ f one
+    ]
 
 -- and where it is
 pub cell_told : (layout : Layout) (running : List Setting) (before now : Option Changes) (x y : Option (List ℕ)) → Told (SameNewest (settings_of layout)) x y → ChangesAtMost 2 0 before now

@@ -1,5 +1,5 @@
 -- What the bytes of a flash stand for as far as the saved settings go, and what the value that holds the settings says.
-use Rattle.std.specs.Prelude.{◌≡◌, ◌⊎◌, ◌+◌, ◌-◌, ◌*◌, ◌/◌, ◌^◌, ℕ, length, true, List, [], ◌∷◌, Option, Some, IsSome, Result, Ok, Err}
+use Rattle.std.specs.Prelude.{◌≡◌, ◌⊎◌, ◌+◌, ◌-◌, ◌*◌, ◌/◌, ◌^◌, ℕ, length, Bool, true, false, List, [], ◌∷◌, Option, Some, IsSome, Result, Ok, Err}
 use Rattle.smp_flash.specs.Area.{dirty_pages}
 use Rattle.smp_flash.specs.Calls.{ChangesAtMost}
 use Rattle.smp_flash.specs.Layout.{settings_of}
@@ -10,13 +10,13 @@ use Rattle.smp_flash.specs.declared.region.Region.TheVariants.{Settings, Setting
 use Rattle.smp_gate.specs.Bank.{BankState, BankSays, other}
 use Rattle.smp_gate.specs.Cells.{places, standing, gate_reads}
 use Rattle.smp_gate.specs.Newest.{just, content_of, newest_side, newest_generation, SameNewest, IsFull}
-use Rattle.smp_model.specs.declared.error.TheConstants.{SETTING_NAME_LENGTH, SETTING_VALUE_LENGTH, SETTINGS_FULL}
+use Rattle.smp_model.specs.declared.error.TheConstants.{SETTING_NAME_LENGTH, NO_SUCH_SETTING, SETTING_VALUE_LENGTH, SETTINGS_FULL}
 use Rattle.smp_model.specs.declared.setting.Setting.{Setting}
 use Rattle.smp_model.specs.Response.{Response, responds}
 use Rattle.smp_model.specs.Said as said
 use Rattle.smp_model.specs.Settings.{stored_form, written_setting}
 use Rattle.smp_model.specs.SettingsGroup.{refuses_setting}
-use Rattle.smp_model.specs.Steps.{Run, write_setting}
+use Rattle.smp_model.specs.Steps.{Run, write_setting, delete_setting}
 use Rattle.smp_settings.specs.Cells.{CellChange, cell_length, settings_given}
 use Rattle.smp_settings.specs.Places.{IsOneChange}
 use Rattle.smp_settings.specs.declared.fault.SettingFault.{SettingFault}
@@ -91,6 +91,10 @@ pub record SavesCheaply (layout : Layout) (running : List Setting) (before now :
   pub nothing : SavedAlready layout running old → (new ≡ old) × ChangesAtMost 0 0 before now
   pub cell : OneCellIsEnough layout running before now old new
 
+-- the side stays: nothing differs, or one cell is enough
+abbrev pub KeepsSide : Layout → List Setting → List ℕ → Type 0
+KeepsSide layout running bytes = SavedAlready layout running bytes ⊎ OneCellSaves layout running bytes
+
 -- the bank's other side is the newest now, with the stored form of these settings and no cells
 pub record SavedAnew (layout : Layout) (running : List Setting) (old new : List ℕ) : Type 0 where
   pub content : content_of (settings_of layout) cell_length new ≡ Some (just (stored_form running))
@@ -119,3 +123,8 @@ written_response (Err Full) name val = refuses_setting SETTINGS_FULL
 abbrev pub after_write : Result (Unit {0}) SettingFault → (name val : List ℕ) → List Setting → List Setting
 after_write (Ok x) name val running = written_setting name val running
 after_write (Err fault) name val running = running
+
+-- the response to a delete that ended so
+abbrev pub deleted_response : Bool → (name : List ℕ) → Response
+deleted_response true name = responds said.empty (Run (delete_setting name) ∷ [])
+deleted_response false name = refuses_setting NO_SUCH_SETTING

@@ -60,6 +60,7 @@ pub fn find_saved<F: Flash>(flash: &mut F, layout: &Layout) -> Result<Found, Ban
     ensures calls { Calls (bank_spots (settings_of layout.now)) (bank_end result) (F.state flash.old) (F.state flash.new) }
     ensures kept { (F.state flash.new).bytes ≡ (F.state flash.old).bytes }
     ensures reads { IfOk result (λ found. ReadsAtMost (opening_reads found.bank) (F.state flash.old).bytes_read (F.state flash.new).bytes_read) }
+    ensures most_read { IfSome (F.state flash.old).bytes (λ held. ReadsAtMost 8208 (F.state flash.old).bytes_read (F.state flash.new).bytes_read) }
     ensures changes { ChangesAtMost 0 0 (F.state flash.old).changes (F.state flash.new).changes }
     ensures bank { IfOk result (λ found. HoldsBank found.bank layout.now) }
     ensures says { IfOk result (λ found. IfSome (F.state flash.new).bytes (BankSays found.bank)) }

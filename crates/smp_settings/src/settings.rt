@@ -6,12 +6,12 @@ ghost use Rattle.smp_flash.specs.Layout.{geometry_of, settings_of, bank_spots};
 ghost use Rattle.smp_gate.specs.Fault.{bank_end};
 ghost use Rattle.smp_gate.specs.Newest.{Fresh, AgesAtMost, SameNewest, IsFull};
 ghost use Rattle.smp_gate.specs.Side.{whole_side};
-ghost use Rattle.smp_model.specs.Settings.{stored_form, value_of, deleted_setting, is_within_limits};
-ghost use Rattle.smp_model.specs.SettingsGroup.{writes_setting};
+ghost use Rattle.smp_model.specs.Settings.{stored_form, value_of, deleted_setting, is_setting_name, is_within_limits};
+ghost use Rattle.smp_model.specs.SettingsGroup.{writes_setting, deletes_setting};
 ghost use Rattle.smp_settings.specs.Cells.{cell_length};
 ghost use Rattle.smp_settings.specs.Found.{HoldsBank};
 ghost use Rattle.smp_settings.specs.Places.{CellSaves};
-ghost use Rattle.smp_settings.specs.Saved.{SavedStand, SavedReadable, SavedAlready, SavedOrThis, SavedAnew, SavesCheaply, OneCellIsEnough, ElseAnew, IsWorn, AimsAtSettings, SaysSaved, SettingsSay, after_write, erases_needed, opening_reads, written_response};
+ghost use Rattle.smp_settings.specs.Saved.{SavedStand, SavedReadable, SavedAlready, SavedOrThis, SavedAnew, SavesCheaply, OneCellIsEnough, OneCellSaves, KeepsSide, ElseAnew, IsWorn, AimsAtSettings, SaysSaved, SettingsSay, after_write, erases_needed, opening_reads, written_response, deleted_response};
 
 use crate::cell::CELL;
 use crate::difference::{is_same, write_change};
@@ -88,6 +88,7 @@ impl Settings {
         ensures calls { Calls (bank_spots (settings_of layout.now)) (bank_end result) (F.state flash.old) (F.state flash.new) }
         ensures kept { (F.state flash.new).bytes ≡ (F.state flash.old).bytes }
         ensures reads { IfOk result (λ s. ReadsAtMost (opening_reads s.bank) (F.state flash.old).bytes_read (F.state flash.new).bytes_read) }
+        ensures most_read { IfSome (F.state flash.old).bytes (λ held. ReadsAtMost 8208 (F.state flash.old).bytes_read (F.state flash.new).bytes_read) }
         ensures changes { ChangesAtMost 0 0 (F.state flash.old).changes (F.state flash.new).changes }
         ensures settings { IfOk result (λ s. (s.layout ≡ layout.now) × (s.bank.sure ≡ true) × (s.running ≡ s.saved)) }
         ensures says { IfOk result (λ s. IfSome (F.state flash.new).bytes (SettingsSay s)) }
@@ -131,6 +132,7 @@ impl Settings {
     /// Deletes a name. False exactly where it does not run.
     pub fn delete(&mut self, name: &str) -> bool
         ensures there { IsTrue result ↔ IsSome (value_of name.now self.old.running) }
+        ensures responded { IsTrue (is_setting_name name.now) → deletes_setting self.old.running name.now ≡ deleted_response result name.now }
         ensures deleted { self.new ≡ record self.old { running = deleted_setting name.now self.old.running } }
     {
         self.running.remove(name)
@@ -143,6 +145,7 @@ impl Settings {
         ensures calls { Calls (bank_spots (settings_of self.old.layout)) (bank_end result) (F.state flash.old) (F.state flash.new) }
         ensures kept { (F.state flash.new).bytes ≡ (F.state flash.old).bytes }
         ensures reads { OnOk result (ReadsAtMost (opening_reads self.new.bank) (F.state flash.old).bytes_read (F.state flash.new).bytes_read) }
+        ensures most_read { IfSome (F.state flash.old).bytes (λ held. ReadsAtMost 8208 (F.state flash.old).bytes_read (F.state flash.new).bytes_read) }
         ensures changes { ChangesAtMost 0 0 (F.state flash.old).changes (F.state flash.new).changes }
         ensures says { IfSome (F.state flash.new).bytes (SettingsSay self.new) }
         ensures layout { self.new.layout ≡ self.old.layout }
@@ -175,6 +178,8 @@ impl Settings {
         requires says { IfSome (F.state flash.old).bytes (SettingsSay self.old) }
         ensures calls { Calls (bank_spots (settings_of self.old.layout)) (bank_end result) (F.state flash.old) (F.state flash.new) }
         ensures reads { self.old.bank.sure ≡ true → ReadsAtMost 4096 (F.state flash.old).bytes_read (F.state flash.new).bytes_read }
+        ensures spared { self.old.bank.sure ≡ true → IfSome (F.state flash.old).bytes (λ held. KeepsSide self.old.layout self.old.running held → ReadsAtMost 0 (F.state flash.old).bytes_read (F.state flash.new).bytes_read) }
+        ensures most_read { IfSome (F.state flash.old).bytes (λ held. ReadsAtMost 12304 (F.state flash.old).bytes_read (F.state flash.new).bytes_read) }
         ensures changes { ChangesAtMost 2 8 (F.state flash.old).changes (F.state flash.new).changes }
         ensures erases { self.old.bank.sure ≡ true → IfSome (F.state flash.old).bytes (λ held. ChangesAtMost 2 (erases_needed (F.state flash.old).geometry.page self.old.bank held) (F.state flash.old).changes (F.state flash.new).changes) }
         ensures either { Told (SavedOrThis self.old.layout self.old.running) (F.state flash.old).bytes (F.state flash.new).bytes }
@@ -212,6 +217,7 @@ impl Settings {
         requires says { IfSome (F.state flash.old).bytes (SettingsSay self.old) }
         ensures calls { Calls (bank_spots (settings_of self.old.layout)) (bank_end result) (F.state flash.old) (F.state flash.new) }
         ensures kept { (F.state flash.new).bytes ≡ (F.state flash.old).bytes }
+        ensures most_read { IfSome (F.state flash.old).bytes (λ held. ReadsAtMost 8208 (F.state flash.old).bytes_read (F.state flash.new).bytes_read) }
         ensures changes { ChangesAtMost 0 0 (F.state flash.old).changes (F.state flash.new).changes }
         ensures says { IfSome (F.state flash.new).bytes (SettingsSay self.new) }
         ensures layout { self.new.layout ≡ self.old.layout }
@@ -252,6 +258,7 @@ impl Settings {
         requires sure { self.old.bank.sure ≡ true }
         ensures calls { Calls (bank_spots (settings_of self.old.layout)) (bank_end result) (F.state flash.old) (F.state flash.new) }
         ensures reads { ReadsAtMost 4096 (F.state flash.old).bytes_read (F.state flash.new).bytes_read }
+        ensures spared { IfSome (F.state flash.old).bytes (λ held. KeepsSide self.old.layout self.old.running held → ReadsAtMost 0 (F.state flash.old).bytes_read (F.state flash.new).bytes_read) }
         ensures changes { ChangesAtMost 2 8 (F.state flash.old).changes (F.state flash.new).changes }
         ensures erases { IfSome (F.state flash.old).bytes (λ held. ChangesAtMost 2 (erases_needed (F.state flash.old).geometry.page self.old.bank held) (F.state flash.old).changes (F.state flash.new).changes) }
         ensures either { Told (SavedOrThis self.old.layout self.old.running) (F.state flash.old).bytes (F.state flash.new).bytes }
@@ -288,6 +295,7 @@ impl Settings {
         requires differ { self.old.running ≢ self.old.saved }
         ensures calls { Calls (bank_spots (settings_of self.old.layout)) (bank_end result) (F.state flash.old) (F.state flash.new) }
         ensures reads { ReadsAtMost 4096 (F.state flash.old).bytes_read (F.state flash.new).bytes_read }
+        ensures spared { IfSome (F.state flash.old).bytes (λ held. OneCellSaves self.old.layout self.old.running held → ReadsAtMost 0 (F.state flash.old).bytes_read (F.state flash.new).bytes_read) }
         ensures changes { ChangesAtMost 2 8 (F.state flash.old).changes (F.state flash.new).changes }
         ensures erases { IfSome (F.state flash.old).bytes (λ held. ChangesAtMost 2 (erases_needed (F.state flash.old).geometry.page self.old.bank held) (F.state flash.old).changes (F.state flash.new).changes) }
         ensures either { Told (SavedOrThis self.old.layout self.old.running) (F.state flash.old).bytes (F.state flash.new).bytes }

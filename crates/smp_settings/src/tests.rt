@@ -365,21 +365,27 @@ fn give_names(flash: &MemFlash, settings: &mut Settings, count: u8) -> Result<()
 #[test]
 fn lengths_are_met(rt: HostRuntime) -> Result<(), Fail> {
     let (_, mut settings, _) = started(rt.alloc())?;
-    let name = "0123456789abcdef0123456789abcde\u{e9}";
+    let longer = "0123456789abcdef0123456789abcde\u{e9}";
+    let longest = "0123456789abcdef0123456789abcd\u{e9}";
     let short = "0123456789abcdef0123456789abcde";
     let rows = [
         ("", VAL.as_slice(), Err(SettingFault::NameLength)),
-        (name, &VAL, Err(SettingFault::NameLength)),
-        (short, &VAL, Err(SettingFault::ValueLength)),
-        (short, &VAL[..128], Ok(())),
+        ("", b"", Err(SettingFault::NameLength)),
+        (longer, &VAL, Err(SettingFault::NameLength)),
+        (longer, b"", Err(SettingFault::NameLength)),
+        (longest, &VAL, Err(SettingFault::ValueLength)),
+        (longest, &VAL[..128], Ok(())),
+        (short, &VAL[..127], Ok(())),
         ("a", b"", Ok(())),
+        ("ab", b"1", Ok(())),
     ];
     for (name, val, want) in rows {
         assert_eq!(rt; settings.write(name, val), want, "{name}");
     }
-    assert_eq!(rt; settings.read(short), Some(&VAL[..128]));
-    assert_eq!(rt; settings.read(name), None);
-    assert!(rt; !settings.delete(name));
+    assert_eq!(rt; settings.read(longest), Some(&VAL[..128]));
+    assert_eq!(rt; settings.read(short), Some(&VAL[..127]));
+    assert_eq!(rt; settings.read(longer), None);
+    assert!(rt; !settings.delete(longer));
     Ok(())
 }
 
@@ -562,6 +568,16 @@ fn each_body_is_a_stored_form(rt: HostRuntime) -> Result<(), Fail> {
     Ok(())
 }
 
+/// A flash that was never formatted holds no settings, and stays as it is.
+#[test]
+fn an_erased_flash_is_unformatted(rt: HostRuntime) -> Result<(), Fail> {
+    let (mut flash, layout) = fresh(rt.alloc())?;
+    let fault = reopened(&mut flash, layout).err();
+    assert_eq!(rt; fault, Some(BankFault::Unformatted));
+    assert_eq!(rt; flash.changes(), 0);
+    Ok(())
+}
+
 /// A start reads both heads, the newest body, of the used cells all gates but the last, the last cell and the free ones, and
 /// then each cell, once.
 #[test]
@@ -645,13 +661,14 @@ struct Strike {
     left: Left,
 }
 
-/// The changes before the save of this number: two names in every fifth, and one in each other.
+/// The changes before the save of this number: two names at the beginning and the end, and one in each between, which are more
+/// than a side has cells.
 fn change(flash: &MemFlash, settings: &mut Settings, turn: u8) -> Result<(), SettingFault>
     requires says { IfSome (mem_state flash.now).bytes (SettingsSay settings.old) }
     ensures layout { settings.new.layout ≡ settings.old.layout }
     ensures says { IfSome (mem_state flash.now).bytes (SettingsSay settings.new) }
 {
-    if turn % 5 == 4 {
+    if turn < 3 || turn > 27 {
         give(flash, settings, "both", &[turn])?;
     }
     if turn % 7 == 6 {
@@ -688,7 +705,7 @@ fn struck_save(
 }
 
 /// A save that is struck, after which a start finds the old map or the new one; then one that is not, after which it finds the
-/// new one.
+/// new one. By turns the second one is of the same settings and of those that the start found.
 fn strike_and_save(
     rt: &impl Abort,
     flash: &mut MemFlash,
@@ -708,7 +725,12 @@ fn strike_and_save(
     let old = form_of(settings);
     change(flash, settings, turn)?;
     let went = struck_save(flash, settings, layout, strike).is_ok();
-    let found = saved(flash, layout)?;
+    let again = reopened(flash, layout)?;
+    let found = form_of(&again);
+    if turn % 2 == 1 {
+        *settings = again;
+        change(flash, settings, turn)?;
+    }
     save(flash, settings, layout)?;
     let new = saved(flash, layout)?;
     assert_eq!(rt; new.as_slice(), settings.saved_form(), "{strike:?} {turn}");

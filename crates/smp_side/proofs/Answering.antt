@@ -1,10 +1,10 @@
 -- How the answers of a side are put together.
-use Rattle.std.proofs.Common.{◌≡◌, ◌⊎◌, inl, inr, ℕ, ◌+◌, ◌≤◌, Bool, true, false, Option, Some, None, List, [], ◌∷◌, ◌++◌, Result, Ok, Err, refl, sym, ◌∙◌, ap, subst, arith, if◌then◌else◌}
+use Rattle.std.proofs.Common.{◌≡◌, ℕ, ◌+◌, ◌≤◌, Bool, true, false, Option, Some, None, List, [], ◌∷◌, Result, Ok, Err, refl, sym, ◌∙◌, ap, subst, arith, if◌then◌else◌}
 use Rattle.std.proofs.lemmas.Result.{on_ok_weaker}
 use Rattle.std.specs.Prelude.{IfSome, IsSomeAnd, OnOk, IfOk, IfErr}
 use Rattle.smp_flash.specs.Area.{Told}
 use Rattle.smp_flash.specs.Calls.{Calls, Smaller}
-use Rattle.smp_flash.specs.Layout.{progress_of, upload_spots}
+use Rattle.smp_flash.specs.Layout.{progress_of}
 use Rattle.smp_flash.specs.State.{FlashState, End, fault_end}
 use Rattle.smp_flash.specs.State.End.{Went}
 use Rattle.smp_flash.specs.declared.flash.CallFault.{CallFault}
@@ -26,15 +26,15 @@ use Rattle.smp_upload.specs.Counting.{Pays, CountsSteps}
 use Rattle.smp_upload.specs.Faults.{of_call, upload_fault_end}
 use Rattle.smp_upload.specs.Mounting.{IsWorn}
 use Rattle.smp_upload.specs.Moves.{Moves, Does, KeepsPending, Moved, Done, mount_spots}
-use Rattle.smp_upload.specs.Needs.{MountNeeds, mount_records, is_unclean}
-use Rattle.smp_upload.specs.States.{Known, Knows, Says, known_mounted}
+use Rattle.smp_upload.specs.Needs.{mount_records, is_unclean}
+use Rattle.smp_upload.specs.States.{Known, Says, known_mounted}
 use Rattle.smp_upload.specs.declared.states.Lost.{Lost}
 use Rattle.smp_upload.specs.declared.states.Mounted.{Mounted}
 use Rattle.smp_upload.specs.declared.states.Unmounted.{Unmounted}
 use Rattle.smp_upload.specs.declared.states.UploadFault.{UploadFault}
 use Rattle.smp_upload.specs.declared.states.UploadFault.TheVariants as faults
-use Rattle.smp_upload.proofs.Sides.{OneSide, says_shows, says_knows}
-use Rattle.smp_upload.proofs.Young.{SaysGeneration, generation_is}
+use Rattle.smp_upload.proofs.Sides.{OneSide, says_shows}
+use Rattle.smp_side.proofs.Spots.{SaysGeneration, generation_is}
 use Rattle.smp_upload.proofs.Composing.{shows_stands, part_none, Done-Moved, Done-Done, Done-is, ages_more}
 use Rattle.smp_side.specs.Held.{held_layout, HeldSays, is_mounted, is_ok, result_end, steps_by, Tells, Answers, responds_after, Broken, Caused, ResultCaused, Tried}
 use Rattle.smp_side.specs.declared.held.Held.{Held}
@@ -83,9 +83,11 @@ some_and P Q A None step p q = absurd q
 some_and P Q A (Some u) step p q = step u p q
 
 pays_nothing : (layout : Layout) (s : Side → List SideStep) (a b : FlashState) → IfSome a.bytes (Idles layout s) → Pays layout s a b
-pays_nothing layout s a b i = record { pays = λ side stands is.
-    some_and (Idles layout s) (SideStands layout side) (Smaller a.patience b.patience) a.bytes
-    (λ u idle st. let none : CountsSteps layout a.aim side [] = subst (λ (t : List SideStep). CountsSteps layout a.aim side t) (idle.idles side st).0 is in absurd none) i stands }
+pays_nothing layout s a b i = record {
+  pays = λ side stands is.
+      some_and (Idles layout s) (SideStands layout side) (Smaller a.patience b.patience) a.bytes
+      (λ u idle st. let none : CountsSteps layout a.aim side [] = subst (λ (t : List SideStep). CountsSteps layout a.aim side t) (idle.idles side st).0 is in absurd none) i stands;
+}
 
 pub Done-none : (layout : Layout) (spots : List (ℕ × ℕ)) (n : ℕ) (s : Side → List SideStep) (a b : FlashState)
     → Calls spots Went a b → b.bytes ≡ a.bytes → IfSome a.bytes (Idles layout s) → Done layout spots n s a b
@@ -140,7 +142,7 @@ pub readable_after : (layout : Layout) (spots : List (ℕ × ℕ)) (n : ℕ) (s 
     → Moved layout spots n s end a b → IfSome a.bytes (SideReadable layout) → IfSome b.bytes (SideReadable layout)
 readable_after layout spots n s end a b m r = Told-after (SideReadable layout) (Moves layout s) (SideReadable layout) a.bytes b.bytes (readable_moved layout s) r m.moves
 
-held_unmounted : (held : Held) (layout : Layout) (bytes : List ℕ) → held_layout held ≡ layout → is_mounted held ≡ false → SideReadable layout bytes → HeldSays held bytes
+pub held_unmounted : (held : Held) (layout : Layout) (bytes : List ℕ) → held_layout held ≡ layout → is_mounted held ≡ false → SideReadable layout bytes → HeldSays held bytes
 held_unmounted (helds.Unmounted u) layout bytes e is r = subst (λ (l : Layout). SideReadable l bytes) (sym e) r
 held_unmounted (helds.Mounted m) layout bytes e is r = absurd (cc is)
 
@@ -264,19 +266,23 @@ pub record Same (layout : Layout) (one other : Side → SideResponse) (bytes : L
   pub same : (side : Side) → SideStands layout side bytes → one side ≡ other side
 
 Moves-as : (layout : Layout) (one other : Side → SideResponse) (u v : List ℕ) → Same layout one other u → Moves layout (steps_by one) u v → Moves layout (steps_by other) u v
-Moves-as layout one other u v same m = record { moves = λ side stands. let r = m.moves side stands in record {
-  reached = r.reached;
-  part = subst (λ (t : SideResponse). SidePart side t.steps r.reached) (same.same side stands) r.part;
-  stands = r.stands;
-} }
+Moves-as layout one other u v same m = record {
+  moves = λ side stands. let r = m.moves side stands in record {
+    reached = r.reached;
+    part = subst (λ (t : SideResponse). SidePart side t.steps r.reached) (same.same side stands) r.part;
+    stands = r.stands;
+  };
+}
 
 Does-as : (layout : Layout) (one other : Side → SideResponse) (u v : List ℕ) → Same layout one other u → Does layout (steps_by one) u v → Does layout (steps_by other) u v
 Does-as layout one other u v same m = record { does = λ side stands. subst (λ (t : SideResponse). SideShows layout (side_applied t.steps side) v) (same.same side stands) (m.does side stands) }
 
 Pays-as : (layout : Layout) (one other : Side → SideResponse) (a b : FlashState) → IfSome a.bytes (Same layout one other) → Pays layout (steps_by one) a b → Pays layout (steps_by other) a b
-Pays-as layout one other a b same p = record { pays = λ side stands is.
-    some_and (Same layout one other) (SideStands layout side) (Smaller a.patience b.patience) a.bytes
-    (λ u e st. p.pays side stands (subst (λ (t : SideResponse). CountsSteps layout a.aim side t.steps) (sym (e.same side st)) is)) same stands }
+Pays-as layout one other a b same p = record {
+  pays = λ side stands is.
+      some_and (Same layout one other) (SideStands layout side) (Smaller a.patience b.patience) a.bytes
+      (λ u e st. p.pays side stands (subst (λ (t : SideResponse). CountsSteps layout a.aim side t.steps) (sym (e.same side st)) is)) same stands;
+}
 
 Done-as : (layout : Layout) (spots : List (ℕ × ℕ)) (n : ℕ) (one other : Side → SideResponse) (a b : FlashState) → IfSome a.bytes (Same layout one other)
     → Done layout spots n (steps_by one) a b → Done layout spots n (steps_by other) a b
@@ -323,12 +329,21 @@ answers_as layout n one other handed a b same f = record {
 }
 
 pub Moved-more : (layout : Layout) (spots : List (ℕ × ℕ)) (m n : ℕ) (s : Side → List SideStep) (end : End) (a b : FlashState) → m ≤ n → Moved layout spots m s end a b → Moved layout spots n s end a b
-Moved-more layout spots m n s end a b le f = record { calls = f.calls; moves = f.moves; pending = f.pending;
-  ages = Told-map (AgesAtMost m (progress_of layout)) (AgesAtMost n (progress_of layout)) a.bytes b.bytes (λ u v. ages_more layout m n u v le) f.ages }
+Moved-more layout spots m n s end a b le f = record {
+  calls = f.calls;
+  moves = f.moves;
+  pending = f.pending;
+  ages = Told-map (AgesAtMost m (progress_of layout)) (AgesAtMost n (progress_of layout)) a.bytes b.bytes (λ u v. ages_more layout m n u v le) f.ages;
+}
 
 pub Done-more : (layout : Layout) (spots : List (ℕ × ℕ)) (m n : ℕ) (s : Side → List SideStep) (a b : FlashState) → m ≤ n → Done layout spots m s a b → Done layout spots n s a b
-Done-more layout spots m n s a b le f = record { calls = f.calls; does = f.does; pending = f.pending; pays = f.pays;
-  ages = Told-map (AgesAtMost m (progress_of layout)) (AgesAtMost n (progress_of layout)) a.bytes b.bytes (λ u v. ages_more layout m n u v le) f.ages }
+Done-more layout spots m n s a b le f = record {
+  calls = f.calls;
+  does = f.does;
+  pending = f.pending;
+  pays = f.pays;
+  ages = Told-map (AgesAtMost m (progress_of layout)) (AgesAtMost n (progress_of layout)) a.bytes b.bytes (λ u v. ages_more layout m n u v le) f.ages;
+}
 
 pub answers_more : (layout : Layout) (m n : ℕ) (respond : Side → SideResponse) (handed : Handed) (a b : FlashState) → m ≤ n → Answers layout m respond handed a b → Answers layout n respond handed a b
 answers_more layout m n respond handed a b le f = record {
@@ -365,7 +380,7 @@ answered_then one m n respond reply handed a b e calls kept says p =
     let known = known_mounted m in
     let l = known.layout in
     let done = Done-none l (mount_spots l) n (steps_by respond) a b calls kept
-        (both_some (Says known) (Plain l respond (said_of reply)) (Idles l (steps_by respond)) a.bytes (idles_plain one known respond (said_of reply)) says p) in
+    (both_some (Says known) (Plain l respond (said_of reply)) (Idles l (steps_by respond)) a.bytes (idles_plain one known respond (said_of reply)) says p) in
     let here : Answers l n respond (record { held = helds.Mounted m; result = Ok reply }) a b = record {
       moved = Done-is l (mount_spots l) n (steps_by respond) a b done;
       done = done;

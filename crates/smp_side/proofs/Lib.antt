@@ -1,3 +1,5 @@
+pub mod Spots
 pub mod Answering
+pub mod Asked
 pub mod Parting
 pub mod Setting

@@ -8,7 +8,7 @@ use Rattle.smp_flash.specs.declared.layout.Layout.{Layout}
 use Rattle.smp_flash.proofs.Telling.{IfSome-map}
 use Rattle.smp_model.specs.declared.device.Side.{Side}
 use Rattle.smp_model.specs.declared.device.Upload.{Upload}
-use Rattle.smp_model.specs.declared.error.TheConstants.{IMAGE_GROUP, NO_FREE_SLOT, PAST_UPLOAD_END}
+use Rattle.smp_model.specs.declared.error.TheConstants.{PAST_UPLOAD_END}
 use Rattle.smp_model.specs.declared.reply.Reply.{Reply}
 use Rattle.smp_model.specs.declared.reply.Reply.TheVariants as replied
 use Rattle.smp_model.specs.declared.upload.Announcement.{Announcement}
@@ -28,7 +28,7 @@ use Rattle.smp_upload.specs.declared.states.Chunked.{Chunked}
 use Rattle.smp_upload.specs.declared.states.Lost.{Lost}
 use Rattle.smp_upload.specs.declared.states.Mounted.{Mounted}
 use Rattle.smp_upload.proofs.Composing.{Done-is, Done-wider, Moved-wider, Moved-first}
-use Rattle.smp_upload.proofs.Looks.{upload_covers}
+use Rattle.smp_side.proofs.Spots.{upload_covers}
 use Rattle.smp_upload.proofs.Sides.{OneSide, says_knows}
 use Rattle.smp_side.specs.Held.{steps_by, Tells, Answers, Broken, Caused, responds_after}
 use Rattle.smp_side.specs.declared.held.Held.TheVariants as helds
@@ -147,32 +147,40 @@ start_busy unit a bytes b o p mark u r busy is = first_is unit a bytes b p u fal
 
 pub plain_upload : OneSide → (known : Known) (a : Announcement) (o : ℕ) (respond : Option Mark → Option Upload → SideResponse) (reply : Said) (bytes : List ℕ) → known.upload ≡ Some (record { announcement = a; offset = o })
     → ((p : Option Mark) (u : Upload) → known.pending ≡ p → Is a o u → respond p (Some u) ≡ offers reply) → Says known bytes → Plain known.layout (λ side. respond side.pending side.upload) reply bytes
-plain_upload one known a o respond reply bytes e f says = record { plain = λ side stands.
-    let k : Knows known side = says_knows one known side bytes says stands in
-    upload_cases (λ up. respond side.pending up ≡ offers reply) a o side.upload (λ u is. f side.pending u k.pending is) (sym e ∙ k.upload) }
+plain_upload one known a o respond reply bytes e f says = record {
+  plain = λ side stands.
+      let k : Knows known side = says_knows one known side bytes says stands in
+      upload_cases (λ up. respond side.pending up ≡ offers reply) a o side.upload (λ u is. f side.pending u k.pending is) (sym e ∙ k.upload);
+}
 
 pub plain_none : OneSide → (known : Known) (respond : Option Mark → Option Upload → SideResponse) (reply : Said) (bytes : List ℕ) → known.upload ≡ None
     → ((p : Option Mark) → known.pending ≡ p → respond p None ≡ offers reply) → Says known bytes → Plain known.layout (λ side. respond side.pending side.upload) reply bytes
-plain_none one known respond reply bytes e f says = record { plain = λ side stands.
-    let k : Knows known side = says_knows one known side bytes says stands in
-    none_cases (λ up. respond side.pending up ≡ offers reply) side.upload (f side.pending k.pending) (sym e ∙ k.upload) }
+plain_none one known respond reply bytes e f says = record {
+  plain = λ side stands.
+      let k : Knows known side = says_knows one known side bytes says stands in
+      none_cases (λ up. respond side.pending up ≡ offers reply) side.upload (f side.pending k.pending) (sym e ∙ k.upload);
+}
 
 -- the same response, by what is known
 pub same_upload : OneSide → (known : Known) (a : Announcement) (o : ℕ) (first other : Option Mark → Option Upload → SideResponse) (x : Option (List ℕ)) → known.upload ≡ Some (record { announcement = a; offset = o })
     → ((p : Option Mark) (u : Upload) → known.pending ≡ p → Is a o u → first p (Some u) ≡ other p (Some u)) → IfSome x (Says known)
     → IfSome x (Same known.layout (λ side. first side.pending side.upload) (λ side. other side.pending side.upload))
 same_upload one known a o first other x e f says = IfSome-map (Says known) (Same known.layout (λ side. first side.pending side.upload) (λ side. other side.pending side.upload)) x
-    (λ bytes s. record { same = λ side stands.
-        let k : Knows known side = says_knows one known side bytes s stands in
-        upload_cases (λ up. first side.pending up ≡ other side.pending up) a o side.upload (λ u is. f side.pending u k.pending is) (sym e ∙ k.upload) }) says
+    (λ bytes s. record {
+      same = λ side stands.
+          let k : Knows known side = says_knows one known side bytes s stands in
+          upload_cases (λ up. first side.pending up ≡ other side.pending up) a o side.upload (λ u is. f side.pending u k.pending is) (sym e ∙ k.upload);
+    }) says
 
 pub same_none : OneSide → (known : Known) (first other : Option Mark → Option Upload → SideResponse) (x : Option (List ℕ)) → known.upload ≡ None
     → ((p : Option Mark) → known.pending ≡ p → first p None ≡ other p None) → IfSome x (Says known)
     → IfSome x (Same known.layout (λ side. first side.pending side.upload) (λ side. other side.pending side.upload))
 same_none one known first other x e f says = IfSome-map (Says known) (Same known.layout (λ side. first side.pending side.upload) (λ side. other side.pending side.upload)) x
-    (λ bytes s. record { same = λ side stands.
-        let k : Knows known side = says_knows one known side bytes s stands in
-        none_cases (λ up. first side.pending up ≡ other side.pending up) side.upload (f side.pending k.pending) (sym e ∙ k.upload) }) says
+    (λ bytes s. record {
+      same = λ side stands.
+          let k : Knows known side = says_knows one known side bytes s stands in
+          none_cases (λ up. first side.pending up ≡ other side.pending up) side.upload (f side.pending k.pending) (sym e ∙ k.upload);
+    }) says
 
 -- A part.
 

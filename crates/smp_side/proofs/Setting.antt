@@ -1,5 +1,5 @@
 -- Erases, marks and the confirmation of a side, and what a list says of it.
-use Rattle.std.proofs.Common.{◌≡◌, ℕ, ◌+◌, ◌≤◌, Bool, true, false, Option, Some, None, List, [], ◌∷◌, ◌++◌, Result, Ok, Err, refl, sym, ◌∙◌, ap, subst, arith, if◌then◌else◌}
+use Rattle.std.proofs.Common.{◌≡◌, ℕ, ◌≤◌, Bool, true, false, Option, Some, None, List, [], ◌∷◌, Ok, Err, refl, sym, ◌∙◌, ap, subst, if◌then◌else◌}
 use Rattle.std.specs.Prelude.{IfSome, option_map, unwrap_or}
 use Rattle.smp_flash.specs.Area.{Told}
 use Rattle.smp_flash.specs.Calls.{Calls}
@@ -8,12 +8,11 @@ use Rattle.smp_flash.specs.State.{FlashState, End, fault_end}
 use Rattle.smp_flash.specs.State.End.{Went}
 use Rattle.smp_flash.specs.declared.flash.CallFault.{CallFault}
 use Rattle.smp_flash.specs.declared.layout.Layout.{Layout}
-use Rattle.smp_flash.proofs.Passing.{Calls-after, Calls-wider}
+use Rattle.smp_flash.proofs.Passing.{Calls-after}
 use Rattle.smp_flash.proofs.Telling.{IfSome-map, IfSome-same, Told-with, Told-after}
 use Rattle.smp_model.specs.declared.device.Side.{Side}
 use Rattle.smp_model.specs.declared.image.ImageInfo.{ImageInfo}
 use Rattle.smp_model.specs.declared.reply.Reply.TheVariants as replied
-use Rattle.smp_model.specs.declared.reply.SidePair.{SidePair}
 use Rattle.smp_model.specs.declared.reply.SlotEntry.{SlotEntry}
 use Rattle.smp_model.specs.declared.upload.Mark.{Mark}
 use Rattle.smp_model.specs.Image.{good_image}
@@ -23,7 +22,7 @@ use Rattle.smp_model.specs.Said as said
 use Rattle.smp_model.specs.Said.{Said, is_error}
 use Rattle.smp_model.specs.Sides.{SideStep, Drop, MarkPending, Confirm}
 use Rattle.smp_model.specs.Uploads.{uploaded_image}
-use Rattle.smp_upload.specs.Bytes.{SideStands, SideReadable, active_in, confirmed_in}
+use Rattle.smp_upload.specs.Bytes.{SideStands, active_in, confirmed_in}
 use Rattle.smp_upload.specs.Counting.{Pays}
 use Rattle.smp_upload.specs.Faults.{of_call, upload_fault_end}
 use Rattle.smp_upload.specs.Moves.{Moved, Done, Does, mount_spots, one_step, no_steps}
@@ -37,7 +36,7 @@ use Rattle.smp_upload.specs.declared.states.Pending.{Pending}
 use Rattle.smp_upload.specs.declared.states.UploadFault.{UploadFault}
 use Rattle.smp_upload.specs.declared.states.UploadFault.TheVariants as faults
 use Rattle.smp_upload.proofs.Composing.{Done-Moved, Done-is, Moved-wider}
-use Rattle.smp_upload.proofs.Looks.{first_covers, primary_Calls}
+use Rattle.smp_side.proofs.Spots.{primary_Calls, primary_covers}
 use Rattle.smp_upload.proofs.Sides.{OneSide, says_shows, says_knows}
 use Rattle.smp_flash.proofs.Passing.{Covers}
 use Rattle.smp_side.specs.Held.{steps_by, Answers, Broken, Caused, response_of}
@@ -73,8 +72,8 @@ pub erase_done : OneSide → (known : Known) (mounted : Mounted) (idle : Idle) (
     → Done known.layout (upload_spots known.layout) k (one_step Drop) a b → IfSome b.bytes (Says (known_idle idle)) → Answers (known_mounted mounted).layout 1 erasing handed a b
 erase_done one known mounted idle k handed a b e free le h l says done after =
     let here : Answers known.layout 1 dropping handed a b =
-        call_done known.layout 1 dropping said.empty (mounts.Idle idle) (known_idle idle) replied.Empty handed a b refl refl h l
-        (Done-more known.layout (upload_spots known.layout) k 1 (one_step Drop) a b le done) after (dropped_says known.layout a.bytes) in
+    call_done known.layout 1 dropping said.empty (mounts.Idle idle) (known_idle idle) replied.Empty handed a b refl refl h l
+    (Done-more known.layout (upload_spots known.layout) k 1 (one_step Drop) a b le done) after (dropped_says known.layout a.bytes) in
     subst (λ (x : Known). Answers x.layout 1 erasing handed a b) e (answers_as known.layout 1 dropping erasing handed a b (same_free one known a.bytes free says) here)
 
 pub erase_lost : OneSide → (known : Known) (mounted : Mounted) (k : ℕ) (lost : Lost) (handed : Handed) (a b : FlashState) → known ≡ known_mounted mounted → known.pending ≡ None → k ≤ 1
@@ -87,8 +86,10 @@ erase_lost one known mounted k lost handed a b e free le l broken m says c =
 
 plain_pending : OneSide → (known : Known) (mark : Mark) (respond : Option Mark → SideResponse) (reply : Said) (bytes : List ℕ) → known.pending ≡ Some mark → respond (Some mark) ≡ offers reply → Says known bytes
     → Plain known.layout (λ side. respond side.pending) reply bytes
-plain_pending one known mark respond reply bytes e f says = record { plain = λ side stands.
-    let k : Knows known side = says_knows one known side bytes says stands in ap respond (sym (sym e ∙ k.pending)) ∙ f }
+plain_pending one known mark respond reply bytes e f says = record {
+  plain = λ side stands.
+      let k : Knows known side = says_knows one known side bytes says stands in ap respond (sym (sym e ∙ k.pending)) ∙ f;
+}
 
 pub erase_refused : OneSide → (mounted m : Mounted) (mark : Mark) (handed : Handed) (a : FlashState) → mounted ≡ m → (known_mounted m).pending ≡ Some mark
     → handed ≡ record { held = helds.Mounted m; result = Ok (replied.GroupError 1 9) } → IfSome a.bytes (Says (known_mounted mounted)) → Answers (known_mounted mounted).layout 1 erasing handed a a
@@ -122,7 +123,7 @@ pub mark_done : OneSide → (known : Known) (mounted : Mounted) (pending : Pendi
     → Done known.layout (upload_spots known.layout) 0 (one_step (MarkPending mark)) a b → IfSome b.bytes (Says (known_pending pending)) → Answers (known_mounted mounted).layout 0 (marking mark) handed a b
 mark_done one known mounted pending mark handed a b e free h l says done after =
     let here : Answers known.layout 0 (marked mark) handed a b =
-        call_done known.layout 0 (marked mark) said.empty (mounts.Pending pending) (known_pending pending) replied.Empty handed a b refl refl h l done after (marked_says known.layout mark a.bytes) in
+    call_done known.layout 0 (marked mark) said.empty (mounts.Pending pending) (known_pending pending) replied.Empty handed a b refl refl h l done after (marked_says known.layout mark a.bytes) in
     subst (λ (x : Known). Answers x.layout 0 (marking mark) handed a b) e (answers_as known.layout 0 (marked mark) (marking mark) handed a b (same_marked one known mark a.bytes free says) here)
 
 pub mark_lost : OneSide → (known : Known) (mounted : Mounted) (mark : Mark) (lost : Lost) (handed : Handed) (a b : FlashState) → known ≡ known_mounted mounted → known.pending ≡ None
@@ -174,9 +175,9 @@ list_said one known layout image confirmed first second bytes side e f s says go
     let is : good_image side.active ≡ Some image = ap good_image (sym active) ∙ good in
     let same : confirmed ≡ side.confirmed = con ∙ ap (λ (l : Layout). confirmed_in l bytes) e ∙ sym t.confirmed in
     let first_is : first ≡ active_entry (unwrap_or (good_image side.active) no_image) side.confirmed =
-        f ∙ (λ i. active_entry (unwrap_or (sym is i) no_image) (same i)) in
+    f ∙ (λ i. active_entry (unwrap_or (sym is i) no_image) (same i)) in
     let second_is : second ≡ option_map (second_entry side.pending) (uploaded_image side.upload) =
-        s ∙ (λ i. option_map (second_entry (k.pending i)) (k.image i)) in
+    s ∙ (λ i. option_map (second_entry (k.pending i)) (k.image i)) in
     λ i. record { first = first_is i; second = second_is i }
 
 pub three_some : (P Q R S : List ℕ → Type 0) (x : Option (List ℕ)) → ((u : List ℕ) → P u → Q u → R u → S u) → IfSome x P → IfSome x Q → IfSome x R → IfSome x S
@@ -321,9 +322,8 @@ pub confirm_failed : OneSide → (m : Mounted) (layout : Layout) (confirm confir
 confirm_failed one m layout confirm confirmed fault handed a b c e f lay says calls kept is m2 broken =
     let known = known_mounted m in
     let l = known.layout in
-    let primary : Covers (mount_spots layout) (area_spot (slot_of layout 0) ∷ []) = first_covers (slot_of layout 0).at (slot_of layout 0).length (upload_spots layout) in
     let moved : Moved l (mount_spots l) 0 (one_step Confirm) (fault_end fault) b c =
-        subst (λ (k : Layout). Moved k (mount_spots k) 0 (one_step Confirm) (fault_end fault) b c) lay (Moved-wider layout (mount_spots layout) (area_spot (slot_of layout 0) ∷ []) 0 (one_step Confirm) (fault_end fault) b c primary m2) in
+    subst (λ (k : Layout). Moved k (mount_spots k) 0 (one_step Confirm) (fault_end fault) b c) lay (Moved-wider layout (mount_spots layout) (area_spot (slot_of layout 0) ∷ []) 0 (one_step Confirm) (fault_end fault) b c (primary_covers layout) m2) in
     let all : Moved l (mount_spots l) 0 (steps_by confirmed_now) (fault_end fault) a c = Done-Moved l (mount_spots l) 0 0 no_steps (one_step Confirm) (fault_end fault) a b c (read_done one known layout a b lay says calls kept) moved in
     answers_as l 0 confirmed_now (confirming confirm) handed a c (same_set layout l confirm confirmed false (side_responds said.empty (Confirm ∷ [])) a.bytes lay e f refl is)
     (broken_off l 0 confirmed_now handed (of_call fault) a c (subst (λ (k : Layout). Broken k (of_call fault) handed) lay broken)

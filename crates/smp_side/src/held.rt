@@ -3,7 +3,7 @@
 ghost use Rattle.std.specs.Prelude.{◌≡◌, ℕ, true, OnOk, IfOk, IfErr, IfSome, Err};
 ghost use Rattle.smp_flash.specs.Layout.{geometry_of};
 ghost use Rattle.smp_model.specs.Sides.{side_settle_steps};
-ghost use Rattle.smp_upload.specs.Faults.{of_call, upload_end};
+ghost use Rattle.smp_upload.specs.Faults.{IsIdle, of_call, upload_end};
 ghost use Rattle.smp_upload.specs.Moves.{Done, Moved, mount_spots};
 ghost use Rattle.smp_upload.specs.States.{Says, known_mounted};
 ghost use Rattle.smp_side.specs.Held.{Broken, Caused, HeldSays, held_layout, is_mounted};
@@ -49,6 +49,7 @@ pub fn mounted<F: Flash>(held: Held, flash: &mut F) -> Result<Mounted, Lost>
     ensures layout { IfOk result (λ mounted. (known_mounted mounted).layout ≡ held_layout held) }
     ensures lost { IfErr result (λ lost. lost.state.layout ≡ held_layout held) }
     ensures caused { IfErr result (λ lost. Caused (held_layout held) 2 lost.fault (F.state flash.old).bytes) }
+    ensures idle { IfErr result (λ lost. IsIdle lost.fault → (F.state flash.new).bytes ≡ (F.state flash.old).bytes) }
     ensures once { is_mounted held ≡ true → OnOk result (F.state flash.new ≡ F.state flash.old) }
     ensures kept { is_mounted held ≡ true → IfErr result (λ lost. ⊥) }
 {

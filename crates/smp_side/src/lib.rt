@@ -17,6 +17,8 @@ mod erasing;
 mod held;
 mod listing;
 mod marking;
+#[cfg(test)]
+mod tests;
 mod uploading;
 
 pub use erasing::erase;

@@ -1,7 +1,7 @@
 //! What a list says of one image.
 
 ghost use Rattle.std.specs.Prelude.{◌≡◌, ◌∷◌, [], option_map, IfOk, IfSome};
-ghost use Rattle.smp_flash.specs.Calls.{Calls};
+ghost use Rattle.smp_flash.specs.Calls.{Calls, ReadsAtMost};
 ghost use Rattle.smp_flash.specs.Layout.{area_spot, geometry_of, slot_of};
 ghost use Rattle.smp_flash.specs.State.{ended};
 ghost use Rattle.smp_model.specs.ImageGroup.{active_entry, is_bootable, is_pending, is_permanent, second_entry};
@@ -95,6 +95,7 @@ pub fn pair<F: Flash>(mounted: &Mounted, flash: &mut F) -> Result<SidePair, Call
     requires says { IfSome (F.state flash.old).bytes (Says (known_mounted mounted.now)) }
     ensures calls { Calls (area_spot (slot_of (known_mounted mounted.now).layout 0) ∷ []) (ended result) (F.state flash.old) (F.state flash.new) }
     ensures kept { (F.state flash.new).bytes ≡ (F.state flash.old).bytes }
+    ensures reads { ReadsAtMost 131103 (F.state flash.old).bytes_read (F.state flash.new).bytes_read }
     ensures pair { IfOk result (λ pair. IfSome (F.state flash.old).bytes (IsPair (known_mounted mounted.now).layout pair)) }
 {
     sides_are_told_apart();

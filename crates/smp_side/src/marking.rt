@@ -1,8 +1,10 @@
 //! What is to run at the next start.
 
-ghost use Rattle.std.specs.Prelude.{◌≡◌, Ok, IfSome, IsSome};
+ghost use Rattle.std.specs.Prelude.{◌≡◌, ◌+◌, Ok, IfSome, IsSome};
+ghost use Rattle.smp_flash.specs.Calls.{ReadsAtMost, ChangesAtMost};
 ghost use Rattle.smp_flash.specs.Layout.{geometry_of};
 ghost use Rattle.smp_model.specs.ImageGroup.{confirms, marks, same_mark};
+ghost use Rattle.smp_slot.specs.Marks.{writes_of};
 ghost use Rattle.smp_upload.specs.States.{Says, known_mounted};
 ghost use Rattle.smp_side.specs.Held.{Answers, response_of};
 
@@ -30,7 +32,9 @@ pub fn mark<F: Flash>(mounted: Mounted, flash: &mut F, mark: Mark) -> Handed
     requires layout { geometry_of (known_mounted mounted).layout ≡ (F.state flash.old).geometry }
     requires says { IfSome (F.state flash.old).bytes (Says (known_mounted mounted)) }
     requires good { IsSome (known_mounted mounted).image }
-    ensures { Answers (known_mounted mounted).layout 0 (λ side. response_of (marks mark side.pending)) result (F.state flash.old) (F.state flash.new) }
+    ensures answers { Answers (known_mounted mounted).layout 0 (λ side. response_of (marks mark side.pending)) result (F.state flash.old) (F.state flash.new) }
+    ensures reads { ReadsAtMost (geometry_of (known_mounted mounted).layout).page (F.state flash.old).bytes_read (F.state flash.new).bytes_read }
+    ensures changes { ChangesAtMost (writes_of mark) 1 (F.state flash.old).changes (F.state flash.new).changes }
 {
     sides_are_told_apart();
     bank_says_what_stands();
@@ -54,7 +58,9 @@ pub fn mark<F: Flash>(mounted: Mounted, flash: &mut F, mark: Mark) -> Handed
 pub fn confirm<F: Flash>(mounted: Mounted, flash: &mut F, confirm: bool) -> Handed
     requires layout { geometry_of (known_mounted mounted).layout ≡ (F.state flash.old).geometry }
     requires says { IfSome (F.state flash.old).bytes (Says (known_mounted mounted)) }
-    ensures { Answers (known_mounted mounted).layout 0 (λ side. response_of (confirms confirm side.confirmed)) result (F.state flash.old) (F.state flash.new) }
+    ensures answers { Answers (known_mounted mounted).layout 0 (λ side. response_of (confirms confirm side.confirmed)) result (F.state flash.old) (F.state flash.new) }
+    ensures reads { ReadsAtMost (1 + (geometry_of (known_mounted mounted).layout).page) (F.state flash.old).bytes_read (F.state flash.new).bytes_read }
+    ensures changes { ChangesAtMost 1 1 (F.state flash.old).changes (F.state flash.new).changes }
 {
     sides_are_told_apart();
     bank_says_what_stands();

@@ -1,6 +1,7 @@
 //! Parts of an upload.
 
 ghost use Rattle.std.specs.Prelude.{◌≡◌, ◌∷◌, ◌&&◌, ◌+◌, ◌<◌, ◌≤◌, ◌==◌, [], ℕ, Ok, None, Some, true, false, length, option_map, IfSome};
+ghost use Rattle.smp_flash.specs.Calls.{ReadsAtMost};
 ghost use Rattle.smp_flash.specs.Geometry.{slot_size};
 ghost use Rattle.smp_flash.specs.Layout.{geometry_of};
 ghost use Rattle.smp_model.specs.ImageGroup.{begins, start_at, part_at};
@@ -82,7 +83,8 @@ fn mounted_from(chunked: Chunked) -> Mounted
 fn part<F: Flash>(state: Receiving, flash: &mut F, bytes: &[u8]) -> Handed
     requires layout { geometry_of state.layout ≡ (F.state flash.old).geometry }
     requires says { IfSome (F.state flash.old).bytes (Says (known_receiving state)) }
-    ensures { Answers state.layout 2 (λ side. part_of (geometry_of state.layout).unit bytes.now side.upload) result (F.state flash.old) (F.state flash.new) }
+    ensures answers { Answers state.layout 2 (λ side. part_of (geometry_of state.layout).unit bytes.now side.upload) result (F.state flash.old) (F.state flash.new) }
+    ensures reads { length bytes.now ≤ 2048 → ReadsAtMost 200000 (F.state flash.old).bytes_read (F.state flash.new).bytes_read }
 {
     sides_are_told_apart();
     bank_says_what_stands();
@@ -110,7 +112,8 @@ fn begin_idle<F: Flash>(
     requires long { 32 ≤ length bytes.now }
     requires most { announcement.now.length + (geometry_of state.layout).page ≤ slot_size (geometry_of state.layout) }
     requires says { IfSome (F.state flash.old).bytes (Says (known_idle state)) }
-    ensures { Answers state.layout 3 (λ _. begins (geometry_of state.layout).unit announcement.now bytes.now) result (F.state flash.old) (F.state flash.new) }
+    ensures answers { Answers state.layout 3 (λ _. begins (geometry_of state.layout).unit announcement.now bytes.now) result (F.state flash.old) (F.state flash.new) }
+    ensures reads { length bytes.now ≤ 2048 → ReadsAtMost 204096 (F.state flash.old).bytes_read (F.state flash.new).bytes_read }
 {
     sides_are_told_apart();
     bank_says_what_stands();
@@ -134,7 +137,8 @@ fn begin_receiving<F: Flash>(
     requires long { 32 ≤ length bytes.now }
     requires most { announcement.now.length + (geometry_of state.layout).page ≤ slot_size (geometry_of state.layout) }
     requires says { IfSome (F.state flash.old).bytes (Says (known_receiving state)) }
-    ensures { Answers state.layout 3 (λ _. begins (geometry_of state.layout).unit announcement.now bytes.now) result (F.state flash.old) (F.state flash.new) }
+    ensures answers { Answers state.layout 3 (λ _. begins (geometry_of state.layout).unit announcement.now bytes.now) result (F.state flash.old) (F.state flash.new) }
+    ensures reads { length bytes.now ≤ 2048 → ReadsAtMost 204096 (F.state flash.old).bytes_read (F.state flash.new).bytes_read }
 {
     sides_are_told_apart();
     bank_says_what_stands();
@@ -158,7 +162,8 @@ fn begin_whole<F: Flash>(
     requires long { 32 ≤ length bytes.now }
     requires most { announcement.now.length + (geometry_of state.layout).page ≤ slot_size (geometry_of state.layout) }
     requires says { IfSome (F.state flash.old).bytes (Says (known_whole state)) }
-    ensures { Answers state.layout 3 (λ _. begins (geometry_of state.layout).unit announcement.now bytes.now) result (F.state flash.old) (F.state flash.new) }
+    ensures answers { Answers state.layout 3 (λ _. begins (geometry_of state.layout).unit announcement.now bytes.now) result (F.state flash.old) (F.state flash.new) }
+    ensures reads { length bytes.now ≤ 2048 → ReadsAtMost 204096 (F.state flash.old).bytes_read (F.state flash.new).bytes_read }
 {
     sides_are_told_apart();
     bank_says_what_stands();
@@ -197,7 +202,8 @@ pub fn start<F: Flash>(
     requires long { 32 ≤ length bytes.now }
     requires most { announcement.now.length + (geometry_of (known_mounted mounted).layout).page ≤ slot_size (geometry_of (known_mounted mounted).layout) }
     requires says { IfSome (F.state flash.old).bytes (Says (known_mounted mounted)) }
-    ensures { Answers (known_mounted mounted).layout 3 (λ side. start_at (geometry_of (known_mounted mounted).layout).unit announcement.now bytes.now side.pending side.upload) result (F.state flash.old) (F.state flash.new) }
+    ensures answers { Answers (known_mounted mounted).layout 3 (λ side. start_at (geometry_of (known_mounted mounted).layout).unit announcement.now bytes.now side.pending side.upload) result (F.state flash.old) (F.state flash.new) }
+    ensures reads { length bytes.now ≤ 2048 → ReadsAtMost 204096 (F.state flash.old).bytes_read (F.state flash.new).bytes_read }
 {
     sides_are_told_apart();
     match mounted {
@@ -275,7 +281,8 @@ pub fn part_at<F: Flash>(
 ) -> Handed
     requires layout { geometry_of (known_mounted mounted).layout ≡ (F.state flash.old).geometry }
     requires says { IfSome (F.state flash.old).bytes (Says (known_mounted mounted)) }
-    ensures { Answers (known_mounted mounted).layout 2 (λ side. part_at (geometry_of (known_mounted mounted).layout).unit off (option_map (λ t. t.now) tag.entry) bytes.now side.upload) result (F.state flash.old) (F.state flash.new) }
+    ensures answers { Answers (known_mounted mounted).layout 2 (λ side. part_at (geometry_of (known_mounted mounted).layout).unit off (option_map (λ t. t.now) tag.entry) bytes.now side.upload) result (F.state flash.old) (F.state flash.new) }
+    ensures reads { length bytes.now ≤ 2048 → ReadsAtMost 200000 (F.state flash.old).bytes_read (F.state flash.new).bytes_read }
 {
     sides_are_told_apart();
     match mounted {

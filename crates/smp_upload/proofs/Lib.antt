@@ -20,6 +20,7 @@ pub mod Restored
 pub mod Running
 pub mod Sides
 pub mod Sights
+pub mod Sizes
 pub mod Stored
 pub mod Summed
 pub mod Tellings

@@ -37,6 +37,8 @@ mod settling;
 mod states;
 mod storing;
 mod summing;
+#[cfg(test)]
+mod tests;
 
 pub use laws::{sides_are_told_apart, sides_outlast_other_changes};
 pub use primary::{active_image, confirm, is_confirmed};

@@ -1,8 +1,9 @@
-use Rattle.std.proofs.Common.{◌∙◌, ap, subst, refl, Bool}
+use Rattle.std.proofs.Common.{◌∙◌, ap, subst, refl, Bool, arith}
 use Rattle.std.specs.Prelude.{IfSome}
 use Rattle.smp_settings.specs.Found.{CellsGive}
 use Rattle.smp_flash.proofs.Passing.{Calls-after}
 use Rattle.smp_gate.specs.Bank.{BankState}
+use Rattle.smp_settings.proofs.Opening.{opening_most, fewer_read}
 use Rattle.smp_settings.proofs.Saving.{sides_are, holds_bank, refused_body_told, refused_cells_told, found_saved_told}
 use Rattle.smp_settings.proofs.saved.find_saved.Goals as goal
 
@@ -39,3 +40,18 @@ pub returns-in-Err-read_cells-clause-calls : goal.returns-in-Err-read_cells-clau
 returns-in-Err-read_cells-clause-calls g c =
     Calls-after _ _ _ _ _ (sides_are c.args.layout.now c.settings.result _ _ _ c.settings.ensures c.in-Ok.ensures.calls)
     (sides_are c.args.layout.now c.in-Ok.bank.place _ _ _ (ap (λ (b : BankState). b.place) c.in-Ok.ensures.bank ∙ c.settings.ensures) c.in-Err-read_cells.ensures.calls)
+
+pub returns-then-not-read_form-clause-most_read : goal.returns-then-not-read_form-clause-most_read
+returns-then-not-read_form-clause-most_read g c = fewer_read 4112 8208 _ _ _ (omega arith) c.open.ensures.reads
+
+pub returns-in-Ok-true-clause-most_read : goal.returns-in-Ok-true-clause-most_read
+returns-in-Ok-true-clause-most_read g c =
+    opening_most c.in-Ok.bank _ _ _ _ _ c.open.ensures.kept (ap (λ (b : BankState). b.cell) c.in-Ok.ensures.bank) c.in-Ok.ensures.says c.open.ensures.reads c.read_cells.ensures.reads
+
+pub returns-in-Ok-false-clause-most_read : goal.returns-in-Ok-false-clause-most_read
+returns-in-Ok-false-clause-most_read g c =
+    opening_most c.in-Ok.bank _ _ _ _ _ c.open.ensures.kept (ap (λ (b : BankState). b.cell) c.in-Ok.ensures.bank) c.in-Ok.ensures.says c.open.ensures.reads c.read_cells.ensures.reads
+
+pub returns-in-Err-read_cells-clause-most_read : goal.returns-in-Err-read_cells-clause-most_read
+returns-in-Err-read_cells-clause-most_read g c =
+    opening_most c.in-Ok.bank _ _ _ _ _ c.open.ensures.kept (ap (λ (b : BankState). b.cell) c.in-Ok.ensures.bank) c.in-Ok.ensures.says c.open.ensures.reads c.read_cells.ensures.reads

@@ -1,10 +1,13 @@
 use Rattle.std.proofs.Common.{◌∙◌, subst, ap}
-use Rattle.smp_flash.specs.Calls.{Calls}
+use Rattle.std.specs.Prelude.{IfSome}
+use Rattle.smp_flash.specs.Calls.{Calls, ReadsAtMost}
 use Rattle.smp_flash.specs.Layout.{settings_of, bank_spots}
 use Rattle.smp_flash.specs.State.{FlashState}
 use Rattle.smp_flash.specs.declared.layout.Layout.{Layout}
 use Rattle.smp_flash.proofs.Passing.{Calls-after, changes_add}
 use Rattle.smp_gate.specs.Fault.{bank_end}
+use Rattle.smp_settings.specs.Saved.{SettingsState, KeepsSide}
+use Rattle.smp_settings.proofs.Opening.{then_read}
 use Rattle.smp_settings.proofs.Storing.{cheap_after, last_told, worn_before, pays_before, ok_weaker, ok_fresh, err_weaker, refused_after}
 use Rattle.smp_settings.proofs.settings.Settings.save.Goals as goal
 
@@ -45,3 +48,13 @@ pub returns-in-Ok-clause-refused : goal.returns-in-Ok-clause-refused
 returns-in-Ok-clause-refused g c =
     err_weaker c.store.result _ _
     (refused_after c.args.self.now.layout c.make_sure.new.self _ _ _ _ c.make_sure.ensures.layout c.make_sure.ensures.kept c.in-Ok.ensures.sure c.make_sure.ensures.says) c.store.ensures.refused
+
+pub returns-in-Ok-clause-spared : goal.returns-in-Ok-clause-spared
+returns-in-Ok-clause-spared g c = λ sure.
+    let same = c.make_sure.ensures.same sure in
+    let after = (g.F.Flash.state c.store.new.flash).bytes_read in
+    subst (λ (f : FlashState). IfSome f.bytes (λ held. KeepsSide c.args.self.now.layout c.args.self.now.running held → ReadsAtMost 0 f.bytes_read after)) same.2
+    (subst (λ (s : SettingsState). IfSome (g.F.Flash.state c.make_sure.new.flash).bytes (λ held. KeepsSide s.layout s.running held → ReadsAtMost 0 (g.F.Flash.state c.make_sure.new.flash).bytes_read after)) same.1 c.store.ensures.spared)
+
+pub returns-in-Ok-clause-most_read : goal.returns-in-Ok-clause-most_read
+returns-in-Ok-clause-most_read g c = then_read 8208 4096 _ _ _ _ c.make_sure.ensures.most_read c.store.ensures.reads

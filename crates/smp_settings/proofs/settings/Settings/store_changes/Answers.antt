@@ -2,8 +2,8 @@ use Rattle.std.proofs.Common.{subst, arith}
 use Rattle.smp_flash.proofs.Passing.{reads_more}
 use Rattle.smp_settings.specs.Cells.{CellChange}
 use Rattle.smp_settings.specs.Places.{IsOneChange, CellSaves}
-use Rattle.smp_settings.specs.Saved.{SettingsState, SavedOrThis}
-use Rattle.smp_settings.proofs.Storing.{no_cell_told, cell_told, else_told, not_else_told, ages_more, ok_weaker, fewer_erases}
+use Rattle.smp_settings.specs.Saved.{SettingsState, SavedOrThis, OneCellSaves}
+use Rattle.smp_settings.proofs.Storing.{no_cell_told, cell_told, else_told, not_else_told, ages_more, ok_weaker, fewer_erases, no_cell_spared, all_spared}
 use Rattle.smp_settings.proofs.settings.Settings.store_changes.Goals as goal
 
 pub returns-then-not-write_change-clause-cell : goal.returns-then-not-write_change-clause-cell
@@ -31,3 +31,11 @@ returns-then-added-clause-ages g c = ages_more c.args.self.now.layout _ _ c.appe
 
 pub returns-then-added-clause-erases : goal.returns-then-added-clause-erases
 returns-then-added-clause-erases g c = fewer_erases _ _ _ _ c.append.ensures.changes
+
+pub returns-then-not-write_change-clause-spared : goal.returns-then-not-write_change-clause-spared
+returns-then-not-write_change-clause-spared g c =
+    no_cell_spared c.args.self.now _ _ c.requires.sure c.requires.says
+    (subst (λ (s : SettingsState). (change : CellChange) → IsOneChange change s.saved s.running → ⊥) c.self.view_is (c.write_change.ensures.more (cc c.if-not-write_change.true)))
+
+pub returns-then-added-clause-spared : goal.returns-then-added-clause-spared
+returns-then-added-clause-spared g c = all_spared (OneCellSaves c.args.self.now.layout c.args.self.now.running) _ _ c.append.ensures.reads
