@@ -21,10 +21,10 @@ use Rattle.smp_model.specs.Said as said
 use Rattle.smp_model.specs.Sides.{SideStep, side_applied}
 use Rattle.smp_model.specs.Steps.{Step, applied, on_side, side_at, with_side, Part}
 use Rattle.smp_upload.specs.Moves.{Moves, Does, Moved, Done, KeepsPending, mount_spots}
-use Rattle.smp_upload.specs.Bytes.{SideStands}
+use Rattle.smp_upload.specs.Bytes.{Apart, SideStands}
 use Rattle.smp_upload.specs.declared.states.UploadFault.{UploadFault}
 use Rattle.smp_upload.proofs.Composing.{shows_stands}
-use Rattle.smp_side.specs.Held.{Answers, Caused, ResultCaused, Tells, response_of, result_end, steps_by}
+use Rattle.smp_side.specs.Held.{Answers, held_layout, HeldSays, Caused, ResultCaused, Tells, response_of, result_end, steps_by}
 use Rattle.smp_side.specs.declared.held.Handed.{Handed}
 use Rattle.smp_device.specs.Answers.{ImagesAnswer, ImagesReached, ImagesMove, ImagesDo, ImagesTell, ImagesCaused, ResultCausedIn}
 use Rattle.smp_device.specs.Laws.{Laws}
@@ -32,9 +32,15 @@ use Rattle.smp_device.specs.Places.{Places, ArePlaces, place_at, spots_of, Stand
 use Rattle.smp_device.specs.Setting.{act_steps, acts_of, acts_on, is_empty}
 use Rattle.smp_device.specs.declared.images.Images.{Images}
 use Rattle.smp_device.specs.declared.images.Replied.{Replied}
+use Rattle.smp_device.specs.Settling.{SettledSay, alone_places, both_places, both_settled}
 use Rattle.smp_device.specs.declared.sets.Act.{Act}
+use Rattle.smp_upload.specs.States.{known_mounted, Says}
+use Rattle.smp_upload.specs.declared.states.Mounted.{Mounted}
+use Rattle.smp_side.specs.declared.held.Held.{Held}
+use Rattle.smp_side.specs.declared.held.Held.TheVariants as helds
 use Rattle.smp_device.proofs.Lifting.{side_here, stands_with, steps_target, with_found, with_other, with_target, applied_append, told_two, caused_one}
-use Rattle.smp_device.proofs.Parting.{covers_at, ages_each, pending_each}
+use Rattle.smp_device.proofs.Asking.{one_zero, zero_one}
+use Rattle.smp_device.proofs.Parting.{apart_of, covers_at, ages_each, pending_each}
 use Rattle.smp_device.proofs.Settlements.{ages_both, ages_wider, pending_both, result_before, reached_behind, reached_more}
 
 -- The response to an act, of a side and of the device.
@@ -222,3 +228,143 @@ act_listed laws g p are i l at t act reply handed images r a b c is e f list =
       pending = pending_both p a.bytes b.bytes c.bytes (pending_each g p i l a.bytes b.bytes are at f.moved.pending keeps) list.pending;
       caused = result_before p 0 0 r a.bytes b.bytes ages list.caused;
     }
+
+-- the answer to an act, as it is known to be
+pub acted_as : (layout : Layout) (act known : Act) (handed : Handed) (a b : FlashState) → act ≡ known → Answers layout 0 (acting known) handed a b → Answers layout 0 (acting act) handed a b
+acted_as layout act known handed a b e f = subst (λ (x : Act). Answers layout 0 (acting x) handed a b) (sym e) f
+
+-- The images behind an act: of one image, and of the first and the second of two.
+
+unknown_first : (handed : Handed) (l : Layout) (o : Option Layout) → held_layout handed.held ≡ l → ◌≡◌ {A = Places} (record { first = held_layout handed.held; second = o }) (record { first = l; second = o })
+unknown_first handed l o e = λ i. record { first = e i; second = o }
+
+both_some : (P Q R : List ℕ → Type 0) (x : Option (List ℕ)) → ((u : List ℕ) → P u → Q u → R u) → IfSome x P → IfSome x Q → IfSome x R
+both_some P Q R None step p q = tt
+both_some P Q R (Some u) step p q = step u p q
+
+pub alone_refused : Laws → (m : Mounted) (t : ℕ) (act : Act) (reply : Reply) (handed : Handed) (a b : FlashState) → ArePlaces a.geometry (alone_places m) → handed.result ≡ Ok reply → is_empty (said_of reply) ≡ false
+    → Answers (known_mounted m).layout 0 (acting act) handed a b
+    → ImagesAnswer (alone_places m) 0 t (acts_on act 0) (record { zero = handed.held; one = None; target = t }) (Ok reply) a b
+alone_refused laws m t act reply handed a b are is e f =
+    let l = (known_mounted m).layout in
+    act_refused laws a.geometry (alone_places m) are 0 l refl t act reply handed a b is e f (record { zero = handed.held; one = None; target = t })
+    (unknown_first handed l None f.layout_kept) refl
+    (both_some (HeldSays handed.held) (HeldSays handed.held) (ImagesSay (record { zero = handed.held; one = None; target = t })) b.bytes (λ u s s2. record { first = s; second = tt }) f.says f.says)
+
+pub alone_broken : Laws → (m : Mounted) (t : ℕ) (act : Act) (fault : UploadFault) (handed : Handed) (a b : FlashState) → ArePlaces a.geometry (alone_places m) → handed.result ≡ Err fault
+    → Answers (known_mounted m).layout 0 (acting act) handed a b
+    → ImagesAnswer (alone_places m) 0 t (acts_on act 0) (record { zero = handed.held; one = None; target = t }) (Err fault) a b
+alone_broken laws m t act fault handed a b are is f =
+    let l = (known_mounted m).layout in
+    act_broken laws a.geometry (alone_places m) are 0 l refl t act fault handed a b is f (record { zero = handed.held; one = None; target = t })
+    (unknown_first handed l None f.layout_kept) refl
+    (both_some (HeldSays handed.held) (HeldSays handed.held) (ImagesSay (record { zero = handed.held; one = None; target = t })) b.bytes (λ u s s2. record { first = s; second = tt }) f.says f.says)
+
+pub alone_listed : Laws → (m n : Mounted) (t : ℕ) (act : Act) (reply : Reply) (handed : Handed) (r : Replied) (a b c : FlashState) → ArePlaces a.geometry (alone_places m) → handed.held ≡ helds.Mounted n → handed.result ≡ Ok reply → is_empty (said_of reply) ≡ true
+    → Answers (known_mounted m).layout 0 (acting act) handed a b → ImagesAnswer (alone_places n) 0 t (lists_after []) r.images r.result b c
+    → ImagesAnswer (alone_places m) 0 t (acts_on act 0) r.images r.result a c
+alone_listed laws m n t act reply handed r a b c are held is e f list =
+    let l = (known_mounted m).layout in
+    let same : (known_mounted n).layout ≡ l = ap held_layout (sym held) ∙ f.layout_kept in
+    let here : ImagesAnswer (alone_places m) 0 t (lists_after []) r.images r.result b c =
+        subst (λ (k : Layout). ImagesAnswer (record { first = k; second = None }) 0 t (lists_after []) r.images r.result b c) same list in
+    act_listed laws a.geometry (alone_places m) are 0 l refl t act reply handed r.images r.result a b c is e f here
+
+-- Of two images.
+
+told_other : Laws → (m : Mounted) (spots : List (ℕ × ℕ)) (x y : Option (List ℕ)) → Apart (known_mounted m).layout spots → IfSome x (Says (known_mounted m)) → Told (Keeps spots) x y → IfSome y (Says (known_mounted m))
+told_other laws m spots None None apart s k = tt
+told_other laws m spots None (Some v) apart s k = absurd k
+told_other laws m spots (Some u) None apart s k = tt
+told_other laws m spots (Some u) (Some v) apart s k = laws.say (known_mounted m) spots u v apart k s
+
+first_of : (m n : Mounted) (t : ℕ) (x : Option (List ℕ)) → IfSome x (SettledSay (both_settled m n t)) → IfSome x (Says (known_mounted m))
+first_of m n t None s = tt
+first_of m n t (Some u) s = s.first
+
+second_of : (m n : Mounted) (t : ℕ) (x : Option (List ℕ)) → IfSome x (SettledSay (both_settled m n t)) → IfSome x (Says (known_mounted n))
+second_of m n t None s = tt
+second_of m n t (Some u) s = s.second
+
+-- the image that is not acted on says what it said
+second_kept : Laws → (m n : Mounted) (t : ℕ) (act : Act) (handed : Handed) (a b : FlashState) → ArePlaces a.geometry (both_places m n) → IfSome a.bytes (SettledSay (both_settled m n t)) → Answers (known_mounted m).layout 0 (acting act) handed a b → IfSome b.bytes (Says (known_mounted n))
+second_kept laws m n t act handed a b are says f =
+    told_other laws n (mount_spots (known_mounted m).layout) a.bytes b.bytes (apart_of a.geometry (both_places m n) are 0 1 (known_mounted m).layout (known_mounted n).layout refl refl zero_one) (second_of m n t a.bytes says) f.moved.calls.keeps
+
+first_kept : Laws → (m n : Mounted) (t : ℕ) (act : Act) (handed : Handed) (a b : FlashState) → ArePlaces a.geometry (both_places m n) → IfSome a.bytes (SettledSay (both_settled m n t)) → Answers (known_mounted n).layout 0 (acting act) handed a b → IfSome b.bytes (Says (known_mounted m))
+first_kept laws m n t act handed a b are says f =
+    told_other laws m (mount_spots (known_mounted n).layout) a.bytes b.bytes (apart_of a.geometry (both_places m n) are 1 0 (known_mounted n).layout (known_mounted m).layout refl refl one_zero) (first_of m n t a.bytes says) f.moved.calls.keeps
+
+zero_images : (m n : Mounted) (t : ℕ) (handed : Handed) → held_layout handed.held ≡ (known_mounted m).layout → places_of (record { zero = handed.held; one = Some (helds.Mounted n); target = t }) ≡ both_places m n
+zero_images m n t handed e = λ i. record { first = e i; second = Some (known_mounted n).layout }
+
+one_images : (m n : Mounted) (t : ℕ) (handed : Handed) → held_layout handed.held ≡ (known_mounted n).layout → places_of (record { zero = helds.Mounted m; one = Some handed.held; target = t }) ≡ both_places m n
+one_images m n t handed e = λ i. record { first = (known_mounted m).layout; second = Some (e i) }
+
+-- what is answered, with the images as a term of the code
+as_images : (p : Places) (n t : ℕ) (respond : AbstractDevice → Response) (images known : Images) (r : Result Reply UploadFault) (a b : FlashState) → images ≡ known → ImagesAnswer p n t respond known r a b → ImagesAnswer p n t respond images r a b
+as_images p n t respond images known r a b e f = subst (λ (x : Images). ImagesAnswer p n t respond x r a b) (sym e) f
+
+pub zero_refused : Laws → (m n : Mounted) (t : ℕ) (act : Act) (reply : Reply) (handed : Handed) (images : Images) (a b : FlashState) → ArePlaces a.geometry (both_places m n) → IfSome a.bytes (SettledSay (both_settled m n t)) → handed.result ≡ Ok reply → is_empty (said_of reply) ≡ false
+    → images ≡ record { zero = handed.held; one = Some (helds.Mounted n); target = t } → Answers (known_mounted m).layout 0 (acting act) handed a b → ImagesAnswer (both_places m n) 0 t (acts_on act 0) images (Ok reply) a b
+zero_refused laws m n t act reply handed images a b are says is e eq f =
+    let known : Images = record { zero = handed.held; one = Some (helds.Mounted n); target = t } in
+    as_images (both_places m n) 0 t (acts_on act 0) images known (Ok reply) a b eq
+    (act_refused laws a.geometry (both_places m n) are 0 (known_mounted m).layout refl t act reply handed a b is e f known (zero_images m n t handed f.layout_kept) refl
+    (both_some (HeldSays handed.held) (Says (known_mounted n)) (ImagesSay known) b.bytes (λ u p q. record { first = p; second = q }) f.says (second_kept laws m n t act handed a b are says f)))
+
+pub zero_broken : Laws → (m n : Mounted) (t : ℕ) (act : Act) (fault : UploadFault) (handed : Handed) (images : Images) (a b : FlashState) → ArePlaces a.geometry (both_places m n) → IfSome a.bytes (SettledSay (both_settled m n t)) → handed.result ≡ Err fault
+    → images ≡ record { zero = handed.held; one = Some (helds.Mounted n); target = t } → Answers (known_mounted m).layout 0 (acting act) handed a b → ImagesAnswer (both_places m n) 0 t (acts_on act 0) images (Err fault) a b
+zero_broken laws m n t act fault handed images a b are says is eq f =
+    let known : Images = record { zero = handed.held; one = Some (helds.Mounted n); target = t } in
+    as_images (both_places m n) 0 t (acts_on act 0) images known (Err fault) a b eq
+    (act_broken laws a.geometry (both_places m n) are 0 (known_mounted m).layout refl t act fault handed a b is f known (zero_images m n t handed f.layout_kept) refl
+    (both_some (HeldSays handed.held) (Says (known_mounted n)) (ImagesSay known) b.bytes (λ u p q. record { first = p; second = q }) f.says (second_kept laws m n t act handed a b are says f)))
+
+pub one_refused : Laws → (m n : Mounted) (t : ℕ) (act : Act) (reply : Reply) (handed : Handed) (images : Images) (a b : FlashState) → ArePlaces a.geometry (both_places m n) → IfSome a.bytes (SettledSay (both_settled m n t)) → handed.result ≡ Ok reply → is_empty (said_of reply) ≡ false
+    → images ≡ record { zero = helds.Mounted m; one = Some handed.held; target = t } → Answers (known_mounted n).layout 0 (acting act) handed a b → ImagesAnswer (both_places m n) 0 t (acts_on act 1) images (Ok reply) a b
+one_refused laws m n t act reply handed images a b are says is e eq f =
+    let known : Images = record { zero = helds.Mounted m; one = Some handed.held; target = t } in
+    as_images (both_places m n) 0 t (acts_on act 1) images known (Ok reply) a b eq
+    (act_refused laws a.geometry (both_places m n) are 1 (known_mounted n).layout refl t act reply handed a b is e f known (one_images m n t handed f.layout_kept) refl
+    (both_some (HeldSays handed.held) (Says (known_mounted m)) (ImagesSay known) b.bytes (λ u p q. record { first = q; second = p }) f.says (first_kept laws m n t act handed a b are says f)))
+
+pub one_broken : Laws → (m n : Mounted) (t : ℕ) (act : Act) (fault : UploadFault) (handed : Handed) (images : Images) (a b : FlashState) → ArePlaces a.geometry (both_places m n) → IfSome a.bytes (SettledSay (both_settled m n t)) → handed.result ≡ Err fault
+    → images ≡ record { zero = helds.Mounted m; one = Some handed.held; target = t } → Answers (known_mounted n).layout 0 (acting act) handed a b → ImagesAnswer (both_places m n) 0 t (acts_on act 1) images (Err fault) a b
+one_broken laws m n t act fault handed images a b are says is eq f =
+    let known : Images = record { zero = helds.Mounted m; one = Some handed.held; target = t } in
+    as_images (both_places m n) 0 t (acts_on act 1) images known (Err fault) a b eq
+    (act_broken laws a.geometry (both_places m n) are 1 (known_mounted n).layout refl t act fault handed a b is f known (one_images m n t handed f.layout_kept) refl
+    (both_some (HeldSays handed.held) (Says (known_mounted m)) (ImagesSay known) b.bytes (λ u p q. record { first = q; second = p }) f.says (first_kept laws m n t act handed a b are says f)))
+
+held_as : (handed : Handed) (k : Mounted) (bytes : List ℕ) → handed.held ≡ helds.Mounted k → HeldSays handed.held bytes → Says (known_mounted k) bytes
+held_as handed k bytes e s = subst (λ (h : Held). HeldSays h bytes) e s
+
+-- what the list is read over
+pub zero_settled : Laws → (m n k : Mounted) (t : ℕ) (act : Act) (handed : Handed) (a b : FlashState) → ArePlaces a.geometry (both_places m n) → IfSome a.bytes (SettledSay (both_settled m n t)) → handed.held ≡ helds.Mounted k
+    → Answers (known_mounted m).layout 0 (acting act) handed a b → IfSome b.bytes (SettledSay (both_settled k n t))
+zero_settled laws m n k t act handed a b are says held f =
+    both_some (HeldSays handed.held) (Says (known_mounted n)) (SettledSay (both_settled k n t)) b.bytes (λ u p q. record { first = held_as handed k u held p; second = q }) f.says (second_kept laws m n t act handed a b are says f)
+
+pub one_settled : Laws → (m n k : Mounted) (t : ℕ) (act : Act) (handed : Handed) (a b : FlashState) → ArePlaces a.geometry (both_places m n) → IfSome a.bytes (SettledSay (both_settled m n t)) → handed.held ≡ helds.Mounted k
+    → Answers (known_mounted n).layout 0 (acting act) handed a b → IfSome b.bytes (SettledSay (both_settled m k t))
+one_settled laws m n k t act handed a b are says held f =
+    both_some (HeldSays handed.held) (Says (known_mounted m)) (SettledSay (both_settled m k t)) b.bytes (λ u p q. record { first = q; second = held_as handed k u held p }) f.says (first_kept laws m n t act handed a b are says f)
+
+pub zero_listed : Laws → (m n k : Mounted) (t : ℕ) (act : Act) (reply : Reply) (handed : Handed) (r : Replied) (a b c : FlashState) → ArePlaces a.geometry (both_places m n) → handed.held ≡ helds.Mounted k → handed.result ≡ Ok reply → is_empty (said_of reply) ≡ true
+    → Answers (known_mounted m).layout 0 (acting act) handed a b → ImagesAnswer (both_places k n) 0 t (lists_after []) r.images r.result b c → ImagesAnswer (both_places m n) 0 t (acts_on act 0) r.images r.result a c
+zero_listed laws m n k t act reply handed r a b c are held is e f list =
+    let same : (known_mounted k).layout ≡ (known_mounted m).layout = ap held_layout (sym held) ∙ f.layout_kept in
+    act_listed laws a.geometry (both_places m n) are 0 (known_mounted m).layout refl t act reply handed r.images r.result a b c is e f
+    (subst (λ (l : Layout). ImagesAnswer (record { first = l; second = Some (known_mounted n).layout }) 0 t (lists_after []) r.images r.result b c) same list)
+
+pub one_listed : Laws → (m n k : Mounted) (t : ℕ) (act : Act) (reply : Reply) (handed : Handed) (r : Replied) (a b c : FlashState) → ArePlaces a.geometry (both_places m n) → handed.held ≡ helds.Mounted k → handed.result ≡ Ok reply → is_empty (said_of reply) ≡ true
+    → Answers (known_mounted n).layout 0 (acting act) handed a b → ImagesAnswer (both_places m k) 0 t (lists_after []) r.images r.result b c → ImagesAnswer (both_places m n) 0 t (acts_on act 1) r.images r.result a c
+one_listed laws m n k t act reply handed r a b c are held is e f list =
+    let same : (known_mounted k).layout ≡ (known_mounted n).layout = ap held_layout (sym held) ∙ f.layout_kept in
+    act_listed laws a.geometry (both_places m n) are 1 (known_mounted n).layout refl t act reply handed r.images r.result a b c is e f
+    (subst (λ (l : Layout). ImagesAnswer (record { first = (known_mounted m).layout; second = Some l }) 0 t (lists_after []) r.images r.result b c) same list)
+
+-- the places keep their flash
+pub still_places : (g h : Geometry) (p q : Places) → h ≡ g → q ≡ p → ArePlaces g p → ArePlaces h q
+still_places g h p q e f are = subst (λ (x : Geometry). ArePlaces x q) (sym e) (subst (λ (x : Places). ArePlaces g x) (sym f) are)

@@ -1,13 +1,14 @@
 //! Marks and confirmations, over images of which all are mounted.
 
-ghost use Rattle.std.specs.Prelude.{◌≡◌, ◌∷◌, [], Some, None, IfOk, IfSome, IsSome};
+ghost use Rattle.std.specs.Prelude.{◌≡◌, true, Some, IfSome};
 ghost use Rattle.smp_flash.specs.Calls.{Calls};
 ghost use Rattle.smp_flash.specs.Layout.{area_spot, geometry_of, slot_of};
 ghost use Rattle.smp_flash.specs.State.{ended};
 ghost use Rattle.smp_model.specs.ImageGroup.{has_hash, runs};
 ghost use Rattle.smp_model.specs.Said.{said_of};
 ghost use Rattle.smp_model.specs.declared.device.Side.{Side as Slots};
-ghost use Rattle.smp_side.specs.Held.{Answers, response_of};
+ghost use Rattle.smp_side.specs.Held.{Answers, is_mounted, response_of};
+ghost use Rattle.smp_side.specs.declared.held.Held.TheVariants as helds;
 ghost use Rattle.smp_upload.specs.Bytes.{SideStands};
 ghost use Rattle.smp_upload.specs.States.{Says, known_mounted};
 ghost use Rattle.smp_device.specs.Answers.{ImagesAnswer};
@@ -54,6 +55,17 @@ fn act_on<F: Flash>(mounted: Mounted, flash: &mut F, act: Act) -> Handed
     }
 }
 
+/// The state of a side that is mounted.
+fn mounted_of(held: Held) -> Mounted
+    requires { is_mounted held ≡ true }
+    ensures { held ≡ helds.Mounted result }
+{
+    match held {
+        Held::Mounted(mounted) => mounted,
+        Held::Unmounted(_) => unreachable!(),
+    }
+}
+
 /// The reply says that it is done.
 fn is_empty(reply: &Reply<'static>) -> bool
     ensures { result ≡ is_empty (said_of reply.now) }
@@ -93,17 +105,97 @@ fn act_alone<F: Flash>(zero: Mounted, target: u32, flash: &mut F, act: Act) -> R
                     result: Ok(reply),
                 };
             }
-            match handed.held {
-                Held::Mounted(zero) => list_settled(
-                    Settled {
-                        zero,
-                        one: None,
-                        target,
-                    },
-                    flash,
-                ),
-                Held::Unmounted(_) => unreachable!(),
+            let settled = Settled {
+                zero: mounted_of(handed.held),
+                one: None,
+                target,
+            };
+            list_settled(settled, flash)
+        }
+    }
+}
+
+/// The images of a device of two, of which the other is mounted.
+fn with_second(zero: Held, one: Held, target: u32) -> Images
+    ensures { result ≡ record { zero = zero; one = Some one; target = target } }
+{
+    Images {
+        zero,
+        one: Some(one),
+        target,
+    }
+}
+
+/// Does it on image 0 of two, and lists the images.
+fn act_zero<F: Flash>(
+    zero: Mounted,
+    one: Mounted,
+    target: u32,
+    flash: &mut F,
+    act: Act,
+) -> Replied
+    requires places { ArePlaces (F.state flash.old).geometry (both_places zero one) }
+    requires says { IfSome (F.state flash.old).bytes (SettledSay (both_settled zero one target)) }
+    requires can { CanAct act zero }
+    ensures { ImagesAnswer (both_places zero one) 0 target (acts_on act 0) result.images result.result (F.state flash.old) (F.state flash.new) }
+{
+    side_laws();
+    let handed = act_on(zero, flash, act);
+    match handed.result {
+        Err(fault) => Replied {
+            images: with_second(handed.held, Held::Mounted(one), target),
+            result: Err(fault),
+        },
+        Ok(reply) => {
+            if !is_empty(&reply) {
+                return Replied {
+                    images: with_second(handed.held, Held::Mounted(one), target),
+                    result: Ok(reply),
+                };
             }
+            let settled = Settled {
+                zero: mounted_of(handed.held),
+                one: Some(one),
+                target,
+            };
+            list_settled(settled, flash)
+        }
+    }
+}
+
+/// Does it on image 1, and lists the images.
+fn act_one<F: Flash>(
+    zero: Mounted,
+    one: Mounted,
+    target: u32,
+    flash: &mut F,
+    act: Act,
+) -> Replied
+    requires places { ArePlaces (F.state flash.old).geometry (both_places zero one) }
+    requires says { IfSome (F.state flash.old).bytes (SettledSay (both_settled zero one target)) }
+    requires can { CanAct act one }
+    ensures { ImagesAnswer (both_places zero one) 0 target (acts_on act 1) result.images result.result (F.state flash.old) (F.state flash.new) }
+{
+    side_laws();
+    let handed = act_on(one, flash, act);
+    match handed.result {
+        Err(fault) => Replied {
+            images: with_second(Held::Mounted(zero), handed.held, target),
+            result: Err(fault),
+        },
+        Ok(reply) => {
+            if !is_empty(&reply) {
+                return Replied {
+                    images: with_second(Held::Mounted(zero), handed.held, target),
+                    result: Ok(reply),
+                };
+            }
+            let settled = Settled {
+                zero,
+                one: Some(mounted_of(handed.held)),
+                target,
+            };
+            list_settled(settled, flash)
         }
     }
 }
