@@ -1,14 +1,13 @@
 -- The images after a request about one of them.
-use Rattle.std.proofs.Common.{◌≡◌, ℕ, zero, suc, ◌≤◌, Bool, true, false, Option, Some, None, List, [], ◌∷◌, Result, Ok, Err, refl, sym, ◌∙◌, ap, subst, arith}
-use Rattle.std.specs.Prelude.{IfSome, OnOk, IfOk, option_map}
+use Rattle.std.proofs.Common.{◌≡◌, ℕ, zero, suc, ◌≤◌, false, Option, Some, None, List, [], Result, Ok, refl, sym, ◌∙◌, ap, subst, arith}
+use Rattle.std.specs.Prelude.{IfSome, option_map}
 use Rattle.smp_flash.specs.Area.{Told, Keeps}
 use Rattle.smp_flash.specs.Layout.{geometry_of, progress_of}
-use Rattle.smp_flash.specs.State.{FlashState, End}
-use Rattle.smp_flash.specs.State.End.{Went}
+use Rattle.smp_flash.specs.State.{FlashState}
 use Rattle.smp_flash.specs.declared.geometry.Geometry.{Geometry}
 use Rattle.smp_flash.specs.declared.layout.Layout.{Layout}
 use Rattle.smp_flash.proofs.Passing.{Calls-refl}
-use Rattle.smp_flash.proofs.Telling.{IfSome-map, Told-same}
+use Rattle.smp_flash.proofs.Telling.{IfSome-map}
 use Rattle.smp_gate.specs.Newest.{AgesAtMost}
 use Rattle.smp_model.specs.declared.device.AbstractDevice.{AbstractDevice}
 use Rattle.smp_model.specs.declared.device.Side.{Side}
@@ -23,16 +22,15 @@ use Rattle.smp_upload.specs.Faults.{upload_fault_end}
 use Rattle.smp_upload.specs.Moves.{Moved, Done, KeepsPending, mount_spots}
 use Rattle.smp_upload.specs.States.{known_mounted}
 use Rattle.smp_upload.specs.declared.states.Lost.{Lost}
-use Rattle.smp_upload.specs.declared.states.Mounted.{Mounted}
 use Rattle.smp_upload.specs.declared.states.UploadFault.{UploadFault}
 use Rattle.smp_side.specs.Held.{Answers, Broken, Caused, held_layout, HeldSays, is_mounted}
 use Rattle.smp_side.specs.declared.held.Held.{Held}
 use Rattle.smp_side.specs.declared.held.Held.TheVariants as helds
 use Rattle.smp_side.specs.declared.held.Handed.{Handed}
 use Rattle.smp_side.proofs.Answering.{answers_after, readable_of, readable_after, answers_more}
-use Rattle.smp_device.specs.Answers.{ImagesAnswer, ImagesMove, ImagesDo, ImagesReached}
+use Rattle.smp_device.specs.Answers.{ImagesAnswer, ImagesMove, ImagesDo}
 use Rattle.smp_device.specs.Laws.{Laws}
-use Rattle.smp_device.specs.Places.{Places, ArePlaces, place_at, spots_of, StandsAt, ImagesStand, AtEach, places_of, ImagesSay}
+use Rattle.smp_device.specs.Places.{Places, ArePlaces, place_at, spots_of, StandsAt, ImagesStand, places_of, ImagesSay}
 use Rattle.smp_device.specs.Requests.{side_response, responds_of, responds_on, moved_target}
 use Rattle.smp_device.specs.declared.images.Images.{Images}
 use Rattle.smp_device.specs.declared.images.Replied.{Replied}
@@ -258,7 +256,7 @@ pub no_image_one : (images : Images) (unit : ℕ) (request : SideRequest) (repli
     → ImagesAnswer (places_of images) 5 images.target (responds_on unit request 1) replied_with.images replied_with.result a a
 no_image_one images unit request replied_with a e says is =
     let same : record { images = record { zero = images.zero; one = None; target = images.target }; result = Ok (replied.GroupError 1 14) } ≡ record { images = images; result = Ok (replied.GroupError 1 14) } =
-        (λ i. record { images = record { zero = images.zero; one = sym e i; target = images.target }; result = Ok (replied.GroupError 1 14) }) in
+    (λ i. record { images = record { zero = images.zero; one = sym e i; target = images.target }; result = Ok (replied.GroupError 1 14) }) in
     no_image_here images unit request 1 replied_with a (ap (option_map held_layout) e) says (is ∙ same)
 
 pub of_image : (images : Images) (image n : ℕ) (request : SideRequest) (r : Replied) (a b : FlashState) → image ≡ n → ImagesAnswer (places_of images) 5 images.target (responds_on a.geometry.unit request n) r.images r.result a b

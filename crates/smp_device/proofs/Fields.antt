@@ -1,11 +1,11 @@
 -- The response to an upload request, by its fields, and to an erase.
-use Rattle.std.proofs.Common.{◌≡◌, ℕ, ◌-◌, ◌+◌, ◌≤◌, ◌==◌, zero, suc, Bool, true, false, not, nat_lt, length, Option, Some, None, List, [], ◌∷◌, Result, Ok, Err, refl, sym, ◌∙◌, ap, subst, arith, if◌then◌else◌}
+use Rattle.std.proofs.Common.{◌≡◌, ℕ, ◌-◌, ◌==◌, Bool, true, false, not, nat_lt, length, Option, Some, None, List, [], ◌∷◌, Result, Ok, Err, refl, sym, ◌∙◌, ap, subst, arith, if◌then◌else◌}
 use Rattle.std.proofs.lemmas.Bool.Decides.{nat_tests}
 use Rattle.std.specs.Prelude.{IfSome, IsSome, OnOk, IfOk}
 use Rattle.smp_flash.specs.Area.{Told}
 use Rattle.smp_flash.specs.Geometry.{slot_size}
 use Rattle.smp_flash.specs.Layout.{progress_of}
-use Rattle.smp_flash.specs.State.{FlashState, End}
+use Rattle.smp_flash.specs.State.{FlashState}
 use Rattle.smp_flash.specs.declared.geometry.Geometry.{Geometry}
 use Rattle.smp_flash.specs.declared.layout.Layout.{Layout}
 use Rattle.smp_flash.proofs.Passing.{Calls-refl}
@@ -19,19 +19,18 @@ use Rattle.smp_model.specs.declared.reply.Reply.TheVariants as replied
 use Rattle.smp_model.specs.declared.upload.Announcement.{Announcement}
 use Rattle.smp_model.specs.declared.upload.Mark.{Mark}
 use Rattle.smp_model.specs.Does.{does}
-use Rattle.smp_model.specs.ImageGroup.{aims, begins_on, begins_with_magic, erase_of, erases, erases_on, has_wrong_size, part_at, part_of, refuses_image, side_of, start_at, start_of, uploads, uploads_to}
+use Rattle.smp_model.specs.ImageGroup.{begins_on, begins_with_magic, erase_of, erases, erases_on, has_wrong_size, part_at, part_of, refuses_image, side_of, start_at, start_of, uploads_to}
 use Rattle.smp_model.specs.Meant as meant
-use Rattle.smp_model.specs.Response.{Response, SideResponse, reply_alone, settling_side}
-use Rattle.smp_model.specs.Said.{Said, said_of}
-use Rattle.smp_model.specs.Said as said
-use Rattle.smp_model.specs.Sides.{SideStep, Drop, side_applied, side_settle, side_settle_steps}
-use Rattle.smp_model.specs.Steps.{Step, applied, side_at, Part}
+use Rattle.smp_model.specs.Response.{Response, reply_alone, settling_side}
+use Rattle.smp_model.specs.Said.{said_of}
+use Rattle.smp_model.specs.Sides.{Drop, side_applied, side_settle}
+use Rattle.smp_model.specs.Steps.{applied, side_at, Part}
 use Rattle.smp_model.specs.Uploads.{is_spoiled}
 use Rattle.smp_upload.specs.Moves.{KeepsPending}
 use Rattle.smp_upload.specs.declared.states.UploadFault.{UploadFault}
-use Rattle.smp_device.specs.Answers.{ImagesAnswer, ImagesMove, ImagesDo, ImagesTell, ImagesReached}
-use Rattle.smp_device.specs.Places.{Places, ArePlaces, place_at, spots_of, StandsAt, ImagesStand, places_of, ImagesSay}
-use Rattle.smp_device.specs.Requests.{side_response, responds_of, responds_on}
+use Rattle.smp_device.specs.Answers.{ImagesAnswer, ImagesMove, ImagesDo, ImagesTell}
+use Rattle.smp_device.specs.Places.{Places, place_at, spots_of, ImagesStand, places_of, ImagesSay}
+use Rattle.smp_device.specs.Requests.{responds_of, responds_on}
 use Rattle.smp_device.specs.Uploads.{sizes_of, start_fault, Announces}
 use Rattle.smp_device.specs.declared.images.Images.{Images}
 use Rattle.smp_device.specs.declared.images.Replied.{Replied}
@@ -214,11 +213,11 @@ start_fit g p t i image len off sha part a request e there z announces is = λ d
     let at = some_place (place_at i p) there in
     let h = side_here p t i at.0 d bytes at.1 stands in
     let one : responds_on g.unit request i d ≡ begins_on i h.side (start_at g.unit a part (side_settle h.side).pending (side_settle h.side).upload) =
-        ap (λ (o : Option Side). responds_of g.unit request i o) h.found ∙ is h.side in
+    ap (λ (o : Option Side). responds_of g.unit request i o) h.found ∙ is h.side in
     one ∙ start_same g i h.side a part
     ∙ sym (uploads_is (sizes_of g) p t i d bytes image len off sha part stands e
-        ∙ to_side (sizes_of g) i (side_at i d) h.side len off sha part true h.found (zero_test off z)
-        ∙ start_begins (sizes_of g) i h.side len sha part a announces.0 announces.1 announces.2)
+    ∙ to_side (sizes_of g) i (side_at i d) h.side len off sha part true h.found (zero_test off z)
+    ∙ start_begins (sizes_of g) i h.side len sha part a announces.0 announces.1 announces.2)
 
 -- a further part
 pub part_unfit : (g : Geometry) (p : Places) (t i : ℕ) (image len : Option ℕ) (off : ℕ) (sha : Option (List ℕ)) (part : List ℕ) → i ≡ side_of t image off sha → IsSome (place_at i p) → (off ≡ 0 → ⊥)
@@ -237,10 +236,10 @@ part_fit g p t i image len off sha part request e there ne right is = λ d bytes
     let at = some_place (place_at i p) there in
     let h = side_here p t i at.0 d bytes at.1 stands in
     let one : responds_on g.unit request i d ≡ settling_side i h.side [] (part_at g.unit off sha part (side_settle h.side).upload) =
-        ap (λ (o : Option Side). responds_of g.unit request i o) h.found ∙ is h.side in
+    ap (λ (o : Option Side). responds_of g.unit request i o) h.found ∙ is h.side in
     one ∙ sym (uploads_is (sizes_of g) p t i d bytes image len off sha part stands e
-        ∙ to_side (sizes_of g) i (side_at i d) h.side len off sha part false h.found (some_test off ne)
-        ∙ ap (λ (b : Bool). if b then refuses_image INVALID_DIGEST else settling_side i h.side [] (part_at g.unit off sha part (side_settle h.side).upload)) right)
+    ∙ to_side (sizes_of g) i (side_at i d) h.side len off sha part false h.found (some_test off ne)
+    ∙ ap (λ (b : Bool). if b then refuses_image INVALID_DIGEST else settling_side i h.side [] (part_at g.unit off sha part (side_settle h.side).upload)) right)
 
 -- An erase.
 

@@ -1,10 +1,10 @@
 -- What one image's calls do, the device does.
-use Rattle.std.proofs.Common.{◌≡◌, ◌⊎◌, inl, inr, ℕ, zero, suc, ◌+◌, ◌≤◌, Bool, true, false, Option, Some, None, List, [], ◌∷◌, ◌++◌, length, ◌==◌, nat_lt, Result, Ok, Err, refl, sym, ◌∙◌, ap, subst, arith, if◌then◌else◌}
+use Rattle.std.proofs.Common.{◌≡◌, ◌⊎◌, inl, inr, ℕ, zero, suc, ◌+◌, Bool, true, false, Option, Some, None, List, [], ◌∷◌, ◌++◌, length, ◌==◌, nat_lt, Result, Ok, Err, refl, sym, ◌∙◌, ap, subst, arith, if◌then◌else◌}
 use Rattle.std.specs.Prelude.{IfSome, OnOk, IfOk, option_map}
 use Rattle.smp_flash.specs.Area.{Told, Keeps}
 use Rattle.smp_flash.specs.Calls.{Calls}
 use Rattle.smp_flash.specs.Layout.{progress_of}
-use Rattle.smp_flash.specs.State.{FlashState, End}
+use Rattle.smp_flash.specs.State.{FlashState}
 use Rattle.smp_flash.specs.declared.geometry.Geometry.{Geometry}
 use Rattle.smp_flash.specs.declared.layout.Layout.{Layout}
 use Rattle.smp_flash.proofs.Passing.{Calls-wider}
@@ -17,11 +17,11 @@ use Rattle.smp_model.specs.declared.reply.Reply.{Reply}
 use Rattle.smp_model.specs.declared.reply.Reply.TheVariants as replied
 use Rattle.smp_model.specs.declared.upload.Announcement.{Announcement}
 use Rattle.smp_model.specs.declared.upload.Mark.{Mark}
-use Rattle.smp_model.specs.ImageGroup.{aims, is_offset, start_at, takes_part, keeps, completes, begins, new_start, resumes, wants, refuses_part}
+use Rattle.smp_model.specs.ImageGroup.{is_offset, start_at, takes_part, keeps, completes, begins, new_start, resumes, refuses_part}
 use Rattle.smp_model.specs.Response.{Response, SideResponse, side_responds}
 use Rattle.smp_model.specs.Said.{Said, said_of, is_error}
 use Rattle.smp_model.specs.Said as said
-use Rattle.smp_model.specs.Sides.{SideStep, Choose, Append, Drop, side_applied, side_settle_steps, side_settle, SidePart}
+use Rattle.smp_model.specs.Sides.{SideStep, Choose, Append, Drop, side_applied, side_settle_steps, side_settle}
 use Rattle.smp_model.specs.Steps.{Step, Run, aim_at, apply, applied, on_side, side_at, with_side, Part}
 use Rattle.smp_model.specs.Uploads.{differs, kept, is_resumed_by}
 use Rattle.smp_upload.specs.Bytes.{SideStands, SideShows, Apart}
@@ -30,10 +30,10 @@ use Rattle.smp_upload.specs.Moves.{Moves, Does, Moved, Done, KeepsPending, mount
 use Rattle.smp_upload.specs.declared.states.UploadFault.{UploadFault}
 use Rattle.smp_upload.specs.declared.states.UploadFault.TheVariants as faults
 use Rattle.smp_upload.proofs.Composing.{shows_stands, ages_more}
-use Rattle.smp_side.specs.Held.{Answers, Broken, Caused, ResultCaused, Tells, Tried, result_end, responds_after, steps_by}
+use Rattle.smp_side.specs.Held.{Answers, Caused, ResultCaused, Tells, Tried, result_end, responds_after, steps_by}
 use Rattle.smp_side.specs.declared.held.Handed.{Handed}
 use Rattle.smp_side.proofs.Answering.{answers_after}
-use Rattle.smp_device.specs.Answers.{ImagesReached, ImagesMove, ImagesDo, ImagesTell, WornSomewhere, ImagesCaused, ResultCausedIn}
+use Rattle.smp_device.specs.Answers.{ImagesMove, ImagesDo, ImagesTell, ImagesCaused, ResultCausedIn}
 use Rattle.smp_device.specs.Laws.{Laws}
 use Rattle.smp_device.specs.Places.{Places, ArePlaces, place_at, spots_of, StandsAt, ImagesStand, AtEach}
 use Rattle.smp_device.specs.Requests.{side_response, between, responds_of, responds_on, target_by, moved_target}
@@ -247,7 +247,7 @@ moves_one laws g p are unit request i l at t r old middle new does moves keeps k
     let fz : side_at i dz ≡ Some settled = between_side request i i answer.reply dx ∙ fx in
     let e = with_side i (λ _. m.reached) dz in
     let part : Part d (on_side i x ++ (z ++ on_side i answer.steps)) e =
-        laws.behind (on_side i x) (z ++ on_side i answer.steps) d e (laws.behind z (on_side i answer.steps) dx e (laws.part i answer.steps dz settled m.reached fz m.part)) in
+    laws.behind (on_side i x) (z ++ on_side i answer.steps) d e (laws.behind z (on_side i answer.steps) dx e (laws.part i answer.steps dz settled m.reached fz m.part)) in
     record {
       reached = e;
       part = subst (λ (o : Option Side). Part d (responds_of unit request i o).steps e) (sym h.found) part;
@@ -277,13 +277,13 @@ does_one laws g p are unit request i l at t r old middle new does then_does keep
     let fz : side_at i dz ≡ Some settled = between_side request i i answer.reply dx ∙ fx in
     let e = applied (on_side i answer.steps) dz in
     let same : applied (on_side i x ++ (z ++ on_side i answer.steps)) d ≡ e =
-        applied_append (on_side i x) (z ++ on_side i answer.steps) d ∙ applied_append z (on_side i answer.steps) dx in
+    applied_append (on_side i x) (z ++ on_side i answer.steps) d ∙ applied_append z (on_side i answer.steps) dx in
     let here : ImagesStand p (moved_target t i request r) e new =
-        stands_with laws g p are i l at t (moved_target t i request r) d e last old new keeps stands
-        (laws.found i answer.steps dz settled fz)
-        (λ j other. laws.others i j answer.steps dz other ∙ between_side request i j answer.reply dx ∙ laws.others i j x d other)
-        (steps_target laws i answer.steps dz settled fz ∙ target_fits unit request settled t i r dx (known side h.stands) (steps_target laws i x d side h.found ∙ stands.target_is))
-        (shows_stands l last new shown) in
+    stands_with laws g p are i l at t (moved_target t i request r) d e last old new keeps stands
+    (laws.found i answer.steps dz settled fz)
+    (λ j other. laws.others i j answer.steps dz other ∙ between_side request i j answer.reply dx ∙ laws.others i j x d other)
+    (steps_target laws i answer.steps dz settled fz ∙ target_fits unit request settled t i r dx (known side h.stands) (steps_target laws i x d side h.found ∙ stands.target_is))
+    (shows_stands l last new shown) in
     let there : ImagesStand p (moved_target t i request r) (applied (on_side i x ++ (z ++ on_side i answer.steps)) d) new = subst (λ (k : AbstractDevice). ImagesStand p (moved_target t i request r) k new) (sym same) here in
     subst (λ (o : Option Side). ImagesStand p (moved_target t i request r) (applied (responds_of unit request i o).steps d) new) (sym h.found) there
 

@@ -1,6 +1,6 @@
 -- The list of images, and the mounting of all as the code goes about it.
-use Rattle.std.proofs.Common.{◌≡◌, ◌≤◌, ℕ, Option, Some, None, List, [], ◌∷◌, Result, Ok, Err, refl, sym, ◌∙◌, ap, subst, arith}
-use Rattle.std.specs.Prelude.{IfSome, OnOk, IfOk, option_map}
+use Rattle.std.proofs.Common.{◌≡◌, ◌≤◌, ℕ, Option, Some, None, List, [], ◌∷◌, Ok, Err, refl, sym, ◌∙◌, ap, subst, arith}
+use Rattle.std.specs.Prelude.{IfSome, option_map}
 use Rattle.smp_flash.specs.Area.{Told, Keeps}
 use Rattle.smp_flash.specs.Calls.{Calls}
 use Rattle.smp_flash.specs.Layout.{area_spot, slot_of, progress_of, upload_spots}
@@ -13,16 +13,15 @@ use Rattle.smp_flash.specs.declared.layout.Layout.{Layout}
 use Rattle.smp_flash.proofs.Passing.{Calls-after, Calls-wider}
 use Rattle.smp_gate.specs.Newest.{AgesAtMost}
 use Rattle.smp_model.specs.declared.device.AbstractDevice.{AbstractDevice}
-use Rattle.smp_model.specs.declared.device.Side.{Side}
 use Rattle.smp_model.specs.declared.reply.Reply.{Reply}
 use Rattle.smp_model.specs.declared.reply.Reply.TheVariants as replied
 use Rattle.smp_model.specs.declared.reply.SidePair.{SidePair}
-use Rattle.smp_model.specs.ImageGroup.{images_of, lists_after, pair_of}
+use Rattle.smp_model.specs.ImageGroup.{lists_after, pair_of}
 use Rattle.smp_model.specs.Response.{Response, reply_alone, settling}
 use Rattle.smp_model.specs.Said.{Said, said_of}
 use Rattle.smp_model.specs.Said as said
 use Rattle.smp_model.specs.Sides.{side_settle_steps}
-use Rattle.smp_model.specs.Steps.{applied, side_at, Part}
+use Rattle.smp_model.specs.Steps.{applied}
 use Rattle.smp_upload.specs.Bytes.{Apart}
 use Rattle.smp_upload.specs.Faults.{of_call, upload_fault_end}
 use Rattle.smp_upload.specs.Moves.{Moved, Done, KeepsPending, mount_spots}
@@ -36,14 +35,13 @@ use Rattle.smp_side.specs.declared.held.Held.{Held}
 use Rattle.smp_side.specs.declared.held.Held.TheVariants as helds
 use Rattle.smp_side.specs.declared.held.Handed.{Handed}
 use Rattle.smp_side.proofs.Answering.{readable_of, slot_end}
-use Rattle.smp_device.specs.Answers.{ImagesAnswer, ImagesReached, ImagesMove, ImagesDo, ImagesTell, ImagesCaused}
+use Rattle.smp_device.specs.Answers.{ImagesAnswer, ImagesMove, ImagesDo, ImagesTell, ImagesCaused}
 use Rattle.smp_device.specs.Laws.{Laws}
-use Rattle.smp_device.specs.Places.{Places, ArePlaces, place_at, spots_of, StandsAt, ImagesStand, AtEach, places_of, ImagesSay}
-use Rattle.smp_device.specs.Settling.{Settles, SettledSay, Unsettled, settled_places, alone_places, both_places, alone_settled, both_settled, unknown_at}
+use Rattle.smp_device.specs.Places.{Places, ArePlaces, place_at, spots_of, ImagesStand, places_of, ImagesSay}
+use Rattle.smp_device.specs.Settling.{Settles, SettledSay, Unsettled, alone_places, both_places, alone_settled, both_settled, unknown_at}
 use Rattle.smp_device.specs.declared.images.Images.{Images}
 use Rattle.smp_device.specs.declared.images.Replied.{Replied}
-use Rattle.smp_device.specs.declared.settled.Settled.{Settled}
-use Rattle.smp_device.proofs.Asking.{zero_says, one_says, lost_says, first_says, second_says, other_kept, zero_one, one_zero, no_side, told_here}
+use Rattle.smp_device.proofs.Asking.{zero_says, lost_says, first_says, other_kept, zero_one, one_zero, no_side}
 use Rattle.smp_device.proofs.Lifting.{side_here}
 use Rattle.smp_device.proofs.Parting.{apart_of, covers_at, Covers-left}
 use Rattle.smp_device.proofs.Settlements.{after_settling, lost_first, lost_second}
@@ -99,7 +97,7 @@ unsettled_one laws images held o zero lost handed a b c are l e first says one_s
     lost_second laws a.geometry after (places_of images) are (held_layout held) at respond lost.fault handed.result images.target a b c refl broken.failed
     (λ i. record { first = l i; second = second i }) first m cause
     (both_some (Says (known_mounted zero)) (HeldSays handed.held) (ImagesSay after) c.bytes (λ u p q. record { first = p; second = q })
-      (first_still laws a.geometry images are held o zero l b.bytes c.bytes says m.calls.keeps) (lost_says held handed.held lost.fault b c kept broken.unmounted m one_says_b))
+    (first_still laws a.geometry images are held o zero l b.bytes c.bytes says m.calls.keeps) (lost_says held handed.held lost.fault b c kept broken.unmounted m one_says_b))
 
 -- Reads that change no byte.
 
@@ -220,7 +218,7 @@ list_both_done m n t first second a b c says calls kept pair more still other =
     quiet p 0 t (lists_after []) images (replied.Images first (Some second)) a c refl refl (Calls-after (spots_of p) Went a b c (calls_at p 0 p.first Went a b refl calls) (calls_at p 1 l Went b c refl more)) (still ∙ kept)
     (both_some (SettledSay (both_settled m n t)) (SettledSay (both_settled m n t)) (ImagesSay images) a.bytes (λ u s s2. record { first = s.first; second = s.second }) says says)
     (both_some (IsPair p.first first) (IsPair l second) (IsAlone p t (lists_after []) (said.images first (Some second))) a.bytes (λ u f h. both_are p t l first second u refl f h) pair
-      (subst (λ (x : Option (List ℕ)). IfSome x (IsPair l second)) kept other))
+    (subst (λ (x : Option (List ℕ)). IfSome x (IsPair l second)) kept other))
 
 pub list_both_first : (m n : Mounted) (t : ℕ) (l : Layout) (held : Held) (fault : CallFault) (u : UploadFault) (a b : FlashState) → IfSome a.bytes (SettledSay (both_settled m n t)) → Calls (area_spot (slot_of (known_mounted m).layout 0) ∷ []) (fault_end fault) a b → b.bytes ≡ a.bytes
     → held ≡ unknown_at l → l ≡ (known_mounted m).layout → u ≡ of_call fault
@@ -248,5 +246,5 @@ pub settled_then : Laws → (p q : Places) (t u n : ℕ) (respond : AbstractDevi
     → ImagesAnswer p 5 t (λ d. settling d respond) r.images r.result a c
 settled_then laws p q t u n respond r a b c le e f settles answer =
     let here : ImagesAnswer p n t respond r.images r.result b c =
-        subst (λ (k : ℕ). ImagesAnswer p n k respond r.images r.result b c) f (subst (λ (x : Places). ImagesAnswer x n u respond r.images r.result b c) e answer) in
+    subst (λ (k : ℕ). ImagesAnswer p n k respond r.images r.result b c) f (subst (λ (x : Places). ImagesAnswer x n u respond r.images r.result b c) e answer) in
     after_settling laws p n t respond r.images r.result a b c le settles here

@@ -2,8 +2,8 @@
 use Rattle.std.proofs.Common.{◌≡◌, ◌⊎◌, inl, inr, ℕ, zero, suc, ◌+◌, ◌≤◌, ◌==◌, Bool, true, false, Option, Some, None, List, [], ◌∷◌, ◌++◌, refl, sym, ◌∙◌, ap, subst, arith}
 use Rattle.std.proofs.lemmas.Bool.Decides.{nat_tests}
 use Rattle.std.specs.Prelude.{IfSome}
-use Rattle.smp_flash.specs.Area.{Told, Keeps, Clear, area}
-use Rattle.smp_flash.specs.Geometry.{slot_size, first_size}
+use Rattle.smp_flash.specs.Area.{Told, Keeps, Clear}
+use Rattle.smp_flash.specs.Geometry.{first_size}
 use Rattle.smp_flash.specs.Layout.{geometry_of, image_of, slot_of, progress_of, scratch_of}
 use Rattle.smp_flash.specs.Region.{Spares, start_of}
 use Rattle.smp_flash.specs.declared.geometry.Geometry.{Geometry}

@@ -1,22 +1,21 @@
 -- The mounting of all images, and what comes after it.
-use Rattle.std.proofs.Common.{◌≡◌, ℕ, zero, suc, ◌+◌, ◌≤◌, Option, Some, None, List, [], ◌∷◌, ◌++◌, Result, Ok, Err, refl, sym, ◌∙◌, ap, subst, arith}
-use Rattle.std.specs.Prelude.{IfSome, OnOk, IfOk, option_map}
+use Rattle.std.proofs.Common.{◌≡◌, ℕ, zero, suc, ◌+◌, ◌≤◌, Option, Some, None, List, ◌++◌, Result, Ok, Err, refl, sym, ◌∙◌, ap, subst, arith}
+use Rattle.std.specs.Prelude.{IfSome, OnOk, IfOk}
 use Rattle.smp_flash.specs.Area.{Told, Keeps}
-use Rattle.smp_flash.specs.Calls.{Calls}
 use Rattle.smp_flash.specs.Layout.{progress_of}
-use Rattle.smp_flash.specs.State.{FlashState, End}
+use Rattle.smp_flash.specs.State.{FlashState}
 use Rattle.smp_flash.specs.State.End.{Went}
 use Rattle.smp_flash.specs.declared.geometry.Geometry.{Geometry}
 use Rattle.smp_flash.specs.declared.layout.Layout.{Layout}
 use Rattle.smp_flash.proofs.Passing.{Calls-after, Calls-wider}
-use Rattle.smp_flash.proofs.Telling.{Told-map, Told-trans, IfSome-map}
+use Rattle.smp_flash.proofs.Telling.{Told-map, Told-trans}
 use Rattle.smp_gate.specs.Newest.{AgesAtMost, newest_generation}
 use Rattle.smp_model.specs.declared.device.AbstractDevice.{AbstractDevice}
 use Rattle.smp_model.specs.declared.device.Side.{Side}
 use Rattle.smp_model.specs.declared.reply.Reply.{Reply}
 use Rattle.smp_model.specs.Response.{Response, settling}
-use Rattle.smp_model.specs.Said.{said_of, if_some}
-use Rattle.smp_model.specs.Sides.{SideStep, side_applied, side_settle_steps}
+use Rattle.smp_model.specs.Said.{if_some}
+use Rattle.smp_model.specs.Sides.{side_applied, side_settle_steps}
 use Rattle.smp_model.specs.Steps.{Step, applied, on_side, side_at, with_side, settle, settle_of, settle_steps, settle_steps_of, Part}
 use Rattle.smp_progress.specs.State.{CanTake}
 use Rattle.smp_upload.specs.Faults.{upload_fault_end}
@@ -26,9 +25,9 @@ use Rattle.smp_upload.specs.declared.states.UploadFault.TheVariants as faults
 use Rattle.smp_upload.proofs.Apartness.{ages_clear}
 use Rattle.smp_upload.proofs.Composing.{shows_stands, ages_sum, ages_more, keeps_trans}
 use Rattle.smp_side.specs.Held.{Caused, result_end}
-use Rattle.smp_device.specs.Answers.{ImagesAnswer, ImagesReached, ImagesMove, ImagesDo, ImagesTell, ImagesCaused, ResultCausedIn, WornSomewhere}
+use Rattle.smp_device.specs.Answers.{ImagesAnswer, ImagesReached, ImagesMove, ImagesDo, ImagesTell, ImagesCaused, ResultCausedIn}
 use Rattle.smp_device.specs.Laws.{Laws}
-use Rattle.smp_device.specs.Places.{Places, ArePlaces, place_at, spots_of, StandsAt, ImagesStand, AtEach, places_of, ImagesSay}
+use Rattle.smp_device.specs.Places.{Places, ArePlaces, place_at, spots_of, ImagesStand, AtEach, places_of, ImagesSay}
 use Rattle.smp_device.specs.Settling.{Settle, Settles}
 use Rattle.smp_device.specs.declared.images.Images.{Images}
 use Rattle.smp_device.proofs.Asking.{no_side, zero_one, one_zero}
@@ -47,7 +46,7 @@ does_at laws g p are i l at t old new does keeps d stands =
     let x = side_settle_steps h.side in
     let e = applied (on_side i x) d in
     let here : ImagesStand p t e new = stands_with laws g p are i l at t t d e (side_applied x h.side) old new keeps stands (laws.found i x d h.side h.found) (λ j other. laws.others i j x d other)
-        (steps_target laws i x d h.side h.found ∙ stands.target_is) (shows_stands l (side_applied x h.side) new (does.does h.side h.stands)) in
+    (steps_target laws i x d h.side h.found ∙ stands.target_is) (shows_stands l (side_applied x h.side) new (does.does h.side h.stands)) in
     subst (λ (o : Option Side). ImagesStand p t (applied (steps_at i o) d) new) (sym h.found) here
 
 pub moves_at : Laws → (g : Geometry) (p : Places) → ArePlaces g p → (i : ℕ) (l : Layout) → place_at i p ≡ Some l → (t : ℕ) (old new : List ℕ) → Moves l side_settle_steps old new → Keeps (mount_spots l) old new
@@ -231,8 +230,8 @@ lost_first laws g images p are respond fault r t a b target is places m c says =
     let u = images.target in
     let k = m.calls.keeps in
     let moved : Told (ImagesMove p t t (λ d. settling d respond)) a.bytes b.bytes =
-        told_two (Moves p.first side_settle_steps) (Keeps (mount_spots p.first)) (ImagesMove p t t (λ d. settling d respond)) a.bytes b.bytes
-        (λ u v f kept. first_moves laws p t respond u v (moves_at laws g p are 0 p.first refl t u v f kept)) m.moves k in
+    told_two (Moves p.first side_settle_steps) (Keeps (mount_spots p.first)) (ImagesMove p t t (λ d. settling d respond)) a.bytes b.bytes
+    (λ u v f kept. first_moves laws p t respond u v (moves_at laws g p are 0 p.first refl t u v f kept)) m.moves k in
     let here : ImagesAnswer p 5 t (λ d. settling d respond) images (Err fault) a b = record {
       calls = Calls-wider (spots_of p) (mount_spots p.first) (upload_fault_end fault) a b (covers_at p 0 p.first refl) m.calls;
       moves = subst (λ (n : ℕ). Told (ImagesMove p t n (λ d. settling d respond)) a.bytes b.bytes) (sym target) moved;
@@ -253,9 +252,9 @@ lost_second laws g images p are l at respond fault r t a b c target is places fi
     let k = m.calls.keeps in
     let ages_b = ages_each g p 0 p.first 2 a.bytes b.bytes are refl first.ages first.calls.keeps in
     let moved : Told (ImagesMove p t t (λ d. settling d respond)) a.bytes c.bytes =
-        Told-trans (OneDoes p t 0) (OneMoves p t 1) (ImagesMove p t t (λ d. settling d respond)) a.bytes b.bytes c.bytes (second_moves laws p t respond)
-        (told_two (Does p.first side_settle_steps) (Keeps (mount_spots p.first)) (OneDoes p t 0) a.bytes b.bytes (λ u v. does_at laws g p are 0 p.first refl t u v) first.does first.calls.keeps)
-        (told_two (Moves l side_settle_steps) (Keeps (mount_spots l)) (OneMoves p t 1) b.bytes c.bytes (λ u v. moves_at laws g p are 1 l at t u v) m.moves k) in
+    Told-trans (OneDoes p t 0) (OneMoves p t 1) (ImagesMove p t t (λ d. settling d respond)) a.bytes b.bytes c.bytes (second_moves laws p t respond)
+    (told_two (Does p.first side_settle_steps) (Keeps (mount_spots p.first)) (OneDoes p t 0) a.bytes b.bytes (λ u v. does_at laws g p are 0 p.first refl t u v) first.does first.calls.keeps)
+    (told_two (Moves l side_settle_steps) (Keeps (mount_spots l)) (OneMoves p t 1) b.bytes c.bytes (λ u v. moves_at laws g p are 1 l at t u v) m.moves k) in
     let here : ImagesAnswer p 5 t (λ d. settling d respond) images (Err fault) a c = record {
       calls = Calls-after (spots_of p) (upload_fault_end fault) a b c (Calls-wider (spots_of p) (mount_spots p.first) Went a b (covers_at p 0 p.first refl) first.calls) (Calls-wider (spots_of p) (mount_spots l) (upload_fault_end fault) b c (covers_at p 1 l at) m.calls);
       moves = subst (λ (n : ℕ). Told (ImagesMove p t n (λ d. settling d respond)) a.bytes c.bytes) (sym target) moved;

@@ -1,15 +1,14 @@
 -- What a flash's bytes stand for of a device's images, by the places of their regions.
-use Rattle.std.specs.Prelude.{◌≡◌, ℕ, zero, suc, List, [], ◌∷◌, ◌++◌, Option, Some, None, IfSome, option_map}
+use Rattle.std.specs.Prelude.{◌≡◌, ℕ, zero, suc, List, [], ◌++◌, Option, Some, None, IfSome, option_map}
 use Rattle.smp_flash.specs.Layout.{geometry_of, image_of}
 use Rattle.smp_flash.specs.declared.geometry.Geometry.{Geometry}
 use Rattle.smp_flash.specs.declared.layout.Layout.{Layout}
 use Rattle.smp_model.specs.declared.device.AbstractDevice.{AbstractDevice}
 use Rattle.smp_model.specs.declared.device.Side.{Side}
 use Rattle.smp_model.specs.Steps.{side_at}
-use Rattle.smp_upload.specs.Bytes.{SideStands, Apart}
+use Rattle.smp_upload.specs.Bytes.{SideStands}
 use Rattle.smp_upload.specs.Moves.{mount_spots}
 use Rattle.smp_side.specs.Held.{held_layout, HeldSays}
-use Rattle.smp_side.specs.declared.held.Held.{Held}
 use Rattle.smp_device.specs.declared.images.Images.{Images}
 
 -- where the regions of image 0 lie, and those of image 1 where the device has one

@@ -1,5 +1,5 @@
 -- What a request about one image is, and the device's response to it.
-use Rattle.std.specs.Prelude.{◌≡◌, ℕ, zero, suc, Bool, ◌+◌, ◌≤◌, length, List, [], ◌∷◌, Option, Some, None, option_map, Result, Ok, Err}
+use Rattle.std.specs.Prelude.{◌≡◌, ℕ, zero, suc, Bool, ◌+◌, ◌≤◌, length, List, [], Option, Some, None, option_map, Result, Ok}
 use Rattle.smp_flash.specs.Geometry.{slot_size}
 use Rattle.smp_flash.specs.declared.geometry.Geometry.{Geometry}
 use Rattle.smp_model.specs.declared.reply.Reply.{Reply}

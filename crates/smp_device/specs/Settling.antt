@@ -1,5 +1,5 @@
 -- What the mounting of all images comes to.
-use Rattle.std.specs.Prelude.{◌≡◌, ℕ, List, Option, Some, None, option_map, IfSome}
+use Rattle.std.specs.Prelude.{ℕ, List, Some, None, option_map, IfSome}
 use Rattle.smp_flash.specs.Area.{Told}
 use Rattle.smp_flash.specs.Calls.{Calls}
 use Rattle.smp_flash.specs.Layout.{progress_of}

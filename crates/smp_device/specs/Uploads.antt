@@ -1,5 +1,5 @@
 -- What is refused of an upload request before the flash is looked at.
-use Rattle.std.specs.Prelude.{◌≡◌, ◌-◌, ℕ, Bool, List, length, Option, Some, None, Result, Ok, Err, not, nat_lt, if◌then◌else◌}
+use Rattle.std.specs.Prelude.{◌≡◌, ℕ, List, length, Option, Some, None, Result, Ok, Err, not, nat_lt, if◌then◌else◌}
 use Rattle.smp_flash.specs.Geometry.{slot_size}
 use Rattle.smp_flash.specs.declared.geometry.Geometry.{Geometry}
 use Rattle.smp_model.specs.declared.device.Sizes.{Sizes}

@@ -36,7 +36,7 @@ use Rattle.smp_upload.specs.declared.states.UploadFault.TheVariants as faults
 use Rattle.smp_upload.proofs.Sides.{OneSide, says_shows}
 use Rattle.smp_side.proofs.Spots.{SaysGeneration, generation_is}
 use Rattle.smp_upload.proofs.Composing.{shows_stands, part_none, Done-Moved, Done-Done, Done-is, ages_more}
-use Rattle.smp_side.specs.Held.{held_layout, HeldSays, is_mounted, is_ok, result_end, steps_by, Tells, Answers, responds_after, Broken, Caused, ResultCaused, Tried}
+use Rattle.smp_side.specs.Held.{held_layout, HeldSays, is_mounted, result_end, steps_by, Tells, Answers, responds_after, Broken, Caused, ResultCaused, Tried}
 use Rattle.smp_side.specs.declared.held.Held.{Held}
 use Rattle.smp_side.specs.declared.held.Held.TheVariants as helds
 use Rattle.smp_side.specs.declared.held.Handed.{Handed}

@@ -1,5 +1,5 @@
 -- Parts of an upload: what a side answers, by what a state knows.
-use Rattle.std.proofs.Common.{◌≡◌, ◌⊎◌, inl, inr, ℕ, ◌+◌, ◌*◌, ◌/◌, ◌<◌, ◌≤◌, ◌==◌, Bool, true, false, Option, Some, None, List, [], ◌∷◌, ◌++◌, length, take, Result, Ok, Err, refl, sym, ◌∙◌, ap, subst, arith, nat_lt, if◌then◌else◌}
+use Rattle.std.proofs.Common.{◌≡◌, ℕ, ◌+◌, ◌*◌, ◌/◌, ◌<◌, ◌≤◌, ◌==◌, Bool, true, false, Option, Some, None, List, [], ◌∷◌, ◌++◌, length, take, Ok, refl, sym, ◌∙◌, ap, subst, arith, nat_lt, if◌then◌else◌}
 use Rattle.std.proofs.lemmas.Bool.Decides.{nat_tests}
 use Rattle.std.specs.Prelude.{IfSome, option_map, is_some, ◌&&◌}
 use Rattle.smp_flash.specs.Layout.{geometry_of, upload_spots}
@@ -17,7 +17,7 @@ use Rattle.smp_model.specs.ImageGroup.{begins, start_at, part_at, new_start, res
 use Rattle.smp_model.specs.Response.{SideResponse, side_responds}
 use Rattle.smp_model.specs.Said.{Said, said_of, is_error}
 use Rattle.smp_model.specs.Said as said
-use Rattle.smp_model.specs.Sides.{SideStep, Choose, Append, Drop}
+use Rattle.smp_model.specs.Sides.{Choose, Append, Drop}
 use Rattle.smp_model.specs.Uploads.{is_resumed_by, is_tagged_by, kept, differs}
 use Rattle.smp_upload.specs.Bytes.{SideStands, SideReadable}
 use Rattle.smp_upload.specs.Faults.{upload_fault_end}
@@ -227,8 +227,8 @@ pub parts_fine : OneSide → (known : Known) (a : Announcement) (o unit : ℕ) (
     → IfSome x (Says known) → NoRefusal known.layout (parting unit bytes) x
 parts_fine one known a o unit bytes x e le says = IfSome-map (Says known) (λ held. (side : Side) → SideStands known.layout side held → is_error (part_of unit bytes side.upload).reply ≡ false) x
     (λ u s side stands.
-        let k : Knows known side = says_knows one known side u s stands in
-        upload_cases (λ up. is_error (part_of unit bytes up).reply ≡ false) a o side.upload (λ v is. part_fine unit bytes a o v le is) (sym e ∙ k.upload)) says
+    let k : Knows known side = says_knows one known side u s stands in
+    upload_cases (λ up. is_error (part_of unit bytes up).reply ≡ false) a o side.upload (λ v is. part_fine unit bytes a o v le is) (sym e ∙ k.upload)) says
 
 -- what an upload's call lost
 pub lost_Answers : (layout : Layout) (n : ℕ) (respond : Side → SideResponse) (lost : Lost) (handed : Handed) (a b : FlashState) → lost.state.layout ≡ layout

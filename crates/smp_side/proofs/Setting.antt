@@ -20,7 +20,7 @@ use Rattle.smp_model.specs.ImageGroup.{active_entry, second_entry, pair_of, no_i
 use Rattle.smp_model.specs.Response.{SideResponse, side_responds}
 use Rattle.smp_model.specs.Said as said
 use Rattle.smp_model.specs.Said.{Said, is_error}
-use Rattle.smp_model.specs.Sides.{SideStep, Drop, MarkPending, Confirm}
+use Rattle.smp_model.specs.Sides.{Drop, MarkPending, Confirm}
 use Rattle.smp_model.specs.Uploads.{uploaded_image}
 use Rattle.smp_upload.specs.Bytes.{SideStands, active_in, confirmed_in}
 use Rattle.smp_upload.specs.Counting.{Pays}
@@ -38,12 +38,11 @@ use Rattle.smp_upload.specs.declared.states.UploadFault.TheVariants as faults
 use Rattle.smp_upload.proofs.Composing.{Done-Moved, Done-is, Moved-wider}
 use Rattle.smp_side.proofs.Spots.{primary_Calls, primary_covers}
 use Rattle.smp_upload.proofs.Sides.{OneSide, says_shows, says_knows}
-use Rattle.smp_flash.proofs.Passing.{Covers}
 use Rattle.smp_side.specs.Held.{steps_by, Answers, Broken, Caused, response_of}
 use Rattle.smp_side.specs.Listing.{IsPair}
 use Rattle.smp_side.specs.declared.held.Held.TheVariants as helds
 use Rattle.smp_side.specs.declared.held.Handed.{Handed}
-use Rattle.smp_side.proofs.Answering.{Idles, Done-none, Moved-none, Moved-more, Done-more, Plain, Same, answered, answered_then, answers_after, answers_as, broken_off, readable_says, slot_end, slot_caused, both_some, NoRefusal}
+use Rattle.smp_side.proofs.Answering.{Idles, Done-none, Moved-none, Moved-more, Done-more, Plain, Same, answered, answered_then, answers_after, answers_as, broken_off, readable_says, slot_end, slot_caused, NoRefusal}
 use Rattle.smp_side.proofs.Parting.{call_done, lost_Answers, offers}
 
 -- Erases.
@@ -214,7 +213,7 @@ pub read_broken : (known : Known) (layout : Layout) (n : ℕ) (respond : Side �
 read_broken known layout n respond handed fault a b e says calls kept broken t =
     broken_off known.layout n respond handed (of_call fault) a b (subst (λ (l : Layout). Broken l (of_call fault) handed) e broken)
     (Moved-none known.layout (mount_spots known.layout) n (steps_by respond) (upload_fault_end (of_call fault)) a b
-      (subst (λ (end : End). Calls (mount_spots known.layout) end a b) (slot_end fault) (active_Calls layout known.layout (fault_end fault) a b e calls)) kept)
+    (subst (λ (end : End). Calls (mount_spots known.layout) end a b) (slot_end fault) (active_Calls layout known.layout (fault_end fault) a b e calls)) kept)
     (readable_says known a.bytes says) (slot_caused known.layout n fault a.bytes) t
 
 pub confirm_refused : OneSide → (m : Mounted) (confirm : Bool) (handed : Handed) (a : FlashState) → confirm ≡ false → handed ≡ record { held = helds.Mounted m; result = Ok (replied.GroupError 1 33) } → IfSome a.bytes (Says (known_mounted m))

@@ -1,5 +1,5 @@
 -- The spots of the calls about the slots of one image, and the age of its record.
-use Rattle.std.proofs.Common.{◌≡◌, ℕ, ◌+◌, Option, Some, None, List, [], ◌∷◌, sym, ◌∙◌, ap}
+use Rattle.std.proofs.Common.{◌≡◌, ℕ, Some, None, List, [], ◌∷◌, sym, ◌∙◌, ap}
 use Rattle.smp_flash.specs.Calls.{Calls}
 use Rattle.smp_flash.specs.Layout.{area_spot, progress_of, slot_of, upload_spots}
 use Rattle.smp_flash.specs.Region.{Spares}

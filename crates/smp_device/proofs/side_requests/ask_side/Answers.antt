@@ -1,8 +1,5 @@
-use Rattle.std.proofs.Common.{ap, arith}
-use Rattle.smp_flash.specs.Layout.{geometry_of}
+use Rattle.std.proofs.Common.{arith}
 use Rattle.smp_upload.specs.States.{known_mounted}
-use Rattle.smp_side.proofs.Answering.{answers_more}
-use Rattle.smp_device.specs.Requests.{side_response}
 use Rattle.smp_device.proofs.Asking.{as_asked}
 use Rattle.smp_device.proofs.side_requests.ask_side.Goals as goal
 

@@ -1,4 +1,4 @@
-use Rattle.std.specs.Prelude.{option_map, refl}
+use Rattle.std.specs.Prelude.{option_map}
 use Rattle.smp_model.specs.Does.{does}
 use Rattle.smp_model.specs.Meant as meant
 use Rattle.smp_device.specs.Places.{places_of}

@@ -1,4 +1,4 @@
-use Rattle.std.proofs.Common.{Err, Ok, refl, sym, ◌∙◌}
+use Rattle.std.proofs.Common.{refl}
 use Rattle.std.specs.Prelude.{option_map}
 use Rattle.smp_model.specs.Does.{does}
 use Rattle.smp_model.specs.Meant as meant
