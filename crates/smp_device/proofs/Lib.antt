@@ -5,3 +5,4 @@ pub mod Fields
 pub mod Settlements
 pub mod Listings
 pub mod Acting
+pub mod Hashing

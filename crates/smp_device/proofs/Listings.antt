@@ -113,7 +113,7 @@ told_same R None (Some v) f e = absurd (cc e)
 told_same R (Some u) None f e = absurd (cc e)
 told_same R (Some u) (Some v) f e = let same : v ≡ u = cc e in subst (R u) (sym same) (f u)
 
-calls_at : (p : Places) (i : ℕ) (l : Layout) (end : End) (a b : FlashState) → place_at i p ≡ Some l → Calls (area_spot (slot_of l 0) ∷ []) end a b → Calls (spots_of p) end a b
+pub calls_at : (p : Places) (i : ℕ) (l : Layout) (end : End) (a b : FlashState) → place_at i p ≡ Some l → Calls (area_spot (slot_of l 0) ∷ []) end a b → Calls (spots_of p) end a b
 calls_at p i l end a b at calls = Calls-wider (spots_of p) (mount_spots l) end a b (covers_at p i l at)
     (Calls-wider (mount_spots l) (area_spot (slot_of l 0) ∷ []) end a b (Covers-left (area_spot (slot_of l 0) ∷ []) (upload_spots l)) calls)
 
@@ -191,10 +191,10 @@ list_alone_done m t first a b says calls kept pair =
     (both_some (SettledSay (alone_settled m t)) (SettledSay (alone_settled m t)) (ImagesSay images) a.bytes (λ u s s2. record { first = s.first; second = tt }) says says)
     (both_some (IsPair p.first first) (IsPair p.first first) (IsAlone p t (lists_after []) (said.images first None)) a.bytes (λ u f f2. alone_is p t first u refl f) pair pair)
 
-unknown_says : (m : Mounted) (held : Held) (bytes : List ℕ) → held ≡ unknown_at (known_mounted m).layout → Says (known_mounted m) bytes → HeldSays held bytes
+pub unknown_says : (m : Mounted) (held : Held) (bytes : List ℕ) → held ≡ unknown_at (known_mounted m).layout → Says (known_mounted m) bytes → HeldSays held bytes
 unknown_says m held bytes e s = subst (λ (h : Held). HeldSays h bytes) (sym e) (readable_of (known_mounted m) bytes s)
 
-unknown_is : (m : Mounted) (l : Layout) (held : Held) → held ≡ unknown_at l → l ≡ (known_mounted m).layout → held ≡ unknown_at (known_mounted m).layout
+pub unknown_is : (m : Mounted) (l : Layout) (held : Held) → held ≡ unknown_at l → l ≡ (known_mounted m).layout → held ≡ unknown_at (known_mounted m).layout
 unknown_is m l held e f = e ∙ ap unknown_at f
 
 pub list_alone_broken : (m : Mounted) (t : ℕ) (l : Layout) (held : Held) (fault : CallFault) (u : UploadFault) (a b : FlashState) → IfSome a.bytes (SettledSay (alone_settled m t)) → Calls (area_spot (slot_of (known_mounted m).layout 0) ∷ []) (fault_end fault) a b → b.bytes ≡ a.bytes

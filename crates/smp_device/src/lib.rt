@@ -1,6 +1,7 @@
 //! The device that is managed, over a flash that may be cut or fail. So far: the requests about one of its images.
 #![tactic(auto)]
 
+mod hashes;
 mod images;
 mod laws;
 mod lists;

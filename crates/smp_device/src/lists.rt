@@ -19,7 +19,7 @@ use smp_side::{Held, layout_of, pair};
 use smp_upload::{Mounted, Unmounted, UploadFault};
 
 /// The fault of a call on a slot.
-fn passed_on(fault: CallFault) -> UploadFault
+pub fn passed_on(fault: CallFault) -> UploadFault
     ensures { result ≡ of_call fault }
 {
     match fault {
@@ -29,7 +29,7 @@ fn passed_on(fault: CallFault) -> UploadFault
 }
 
 /// An image of which nothing is known any more.
-fn unknown(layout: Layout) -> Held
+pub fn unknown(layout: Layout) -> Held
     ensures { result ≡ unknown_at layout }
 {
     Held::Unmounted(Unmounted { layout })

@@ -34,14 +34,6 @@ pub enum Act {
     Mark(Mark),
 }
 
-/// What a hash means: the image that runs as this one, the image that was uploaded for this one, or none.
-#[derive(Clone, Copy, Debug)]
-pub enum Meaning {
-    Runs(u32),
-    Holds(u32),
-    Nothing,
-}
-
 /// Does it on a side.
 fn act_on<F: Flash>(mounted: Mounted, flash: &mut F, act: Act) -> Handed
     requires layout { geometry_of (known_mounted mounted).layout ≡ (F.state flash.old).geometry }
@@ -77,7 +69,7 @@ fn is_empty(reply: &Reply<'static>) -> bool
 }
 
 /// Does it on the image of a device of one, and lists the images.
-fn act_alone<F: Flash>(zero: Mounted, target: u32, flash: &mut F, act: Act) -> Replied
+pub fn act_alone<F: Flash>(zero: Mounted, target: u32, flash: &mut F, act: Act) -> Replied
     requires places { ArePlaces (F.state flash.old).geometry (alone_places zero) }
     requires says { IfSome (F.state flash.old).bytes (SettledSay (alone_settled zero target)) }
     requires can { CanAct act zero }
@@ -116,7 +108,7 @@ fn act_alone<F: Flash>(zero: Mounted, target: u32, flash: &mut F, act: Act) -> R
 }
 
 /// The images of a device of two, of which the other is mounted.
-fn with_second(zero: Held, one: Held, target: u32) -> Images
+pub fn with_second(zero: Held, one: Held, target: u32) -> Images
     ensures { result ≡ record { zero = zero; one = Some one; target = target } }
 {
     Images {
@@ -127,7 +119,7 @@ fn with_second(zero: Held, one: Held, target: u32) -> Images
 }
 
 /// Does it on image 0 of two, and lists the images.
-fn act_zero<F: Flash>(
+pub fn act_zero<F: Flash>(
     zero: Mounted,
     one: Mounted,
     target: u32,
@@ -164,7 +156,7 @@ fn act_zero<F: Flash>(
 }
 
 /// Does it on image 1, and lists the images.
-fn act_one<F: Flash>(
+pub fn act_one<F: Flash>(
     zero: Mounted,
     one: Mounted,
     target: u32,

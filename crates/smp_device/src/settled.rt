@@ -19,7 +19,7 @@ pub struct Settled {
 }
 
 /// The image of a device of one.
-fn alone(zero: Mounted, target: u32) -> Settled
+pub fn alone(zero: Mounted, target: u32) -> Settled
     ensures { result ≡ alone_settled zero target }
 {
     Settled {

@@ -1,0 +1,180 @@
+//! Marks and confirmations, by the hash of an image.
+
+ghost use Rattle.std.specs.Prelude.{◌≡◌, ◌∷◌, [], Err, IfOk, IfSome};
+ghost use Rattle.smp_flash.specs.Calls.{Calls};
+ghost use Rattle.smp_flash.specs.Layout.{area_spot, geometry_of, slot_of};
+ghost use Rattle.smp_flash.specs.State.{ended};
+ghost use Rattle.smp_model.specs.Does.{does};
+ghost use Rattle.smp_model.specs.ImageGroup.{confirms_on, has_hash, mark_of, sets_hash};
+ghost use Rattle.smp_model.specs.Meant as meant;
+ghost use Rattle.smp_model.specs.Steps.{side_at};
+ghost use Rattle.smp_upload.specs.Faults.{of_call};
+ghost use Rattle.smp_upload.specs.States.{Says, known_mounted};
+ghost use Rattle.smp_device.specs.Answers.{ImagesAnswer};
+ghost use Rattle.smp_device.specs.Places.{ArePlaces, ImagesSay, places_of};
+ghost use Rattle.smp_device.specs.Setting.{RunsIs, acts_on};
+ghost use Rattle.smp_device.specs.Settling.{SettledSay, alone_places, alone_settled, both_places, both_settled, settled_places};
+ghost use Rattle.smp_device.specs.Uploads.{sizes_of};
+
+use crate::images::{Images, Replied};
+use crate::laws::side_laws;
+use crate::lists::{passed_on, unknown};
+use crate::sets::{Act, act_alone, act_one, act_zero, with_second};
+use crate::settled::{Settled, alone};
+use crate::uploads::refused;
+use smp_flash::{CallFault, Flash};
+use smp_model::error::{HASH_NOT_FOUND, INVALID_DIGEST, INVALID_VALUE};
+use smp_model::{Mark, Reply};
+use smp_side::{Held, layout_of};
+use smp_upload::{Mounted, active_image, sides_are_told_apart};
+
+/// The image that runs has this hash. No byte changes.
+fn runs_at<F: Flash>(mounted: &Mounted, flash: &mut F, hash: &[u8]) -> Result<bool, CallFault>
+    requires layout { geometry_of (known_mounted mounted.now).layout ≡ (F.state flash.old).geometry }
+    requires says { IfSome (F.state flash.old).bytes (Says (known_mounted mounted.now)) }
+    ensures calls { Calls (area_spot (slot_of (known_mounted mounted.now).layout 0) ∷ []) (ended result) (F.state flash.old) (F.state flash.new) }
+    ensures kept { (F.state flash.new).bytes ≡ (F.state flash.old).bytes }
+    ensures runs { IfOk result (λ b. IfSome (F.state flash.old).bytes (RunsIs (known_mounted mounted.now).layout hash.now b)) }
+{
+    let layout = layout_of(mounted);
+    let image = active_image(&layout, flash)?;
+    Ok(&image.hash[..] == hash)
+}
+
+/// The good image that was uploaded has this hash.
+fn holds_at(mounted: &Mounted, hash: &[u8]) -> bool
+    ensures { result ≡ has_hash hash.now (known_mounted mounted.now).image }
+{
+    match mounted {
+        Mounted::Idle(_) | Mounted::Receiving(_) => false,
+        Mounted::Whole(state) => match state.image {
+            None => false,
+            Some(image) => &image.hash[..] == hash,
+        },
+        Mounted::Pending(state) => &state.image.hash[..] == hash,
+    }
+}
+
+/// The mark that is asked for.
+fn mark_of(confirm: bool) -> Mark
+    ensures { result ≡ mark_of confirm }
+{
+    if confirm { Mark::Permanent } else { Mark::Test }
+}
+
+/// A read of a slot failed.
+fn failed(images: Images, fault: CallFault) -> Replied
+    ensures { result ≡ record { images = images; result = Err (of_call fault) } }
+{
+    Replied {
+        images,
+        result: Err(passed_on(fault)),
+    }
+}
+
+/// The image of a device of one that has this hash is set.
+fn set_alone<F: Flash>(
+    zero: Mounted,
+    target: u32,
+    flash: &mut F,
+    hash: &[u8],
+    confirm: bool,
+) -> Replied
+    requires places { ArePlaces (F.state flash.old).geometry (alone_places zero) }
+    requires says { IfSome (F.state flash.old).bytes (SettledSay (alone_settled zero target)) }
+    ensures { ImagesAnswer (alone_places zero) 0 target (sets_hash hash.now confirm) result.images result.result (F.state flash.old) (F.state flash.new) }
+{
+    side_laws();
+    sides_are_told_apart();
+    let runs = match runs_at(&zero, flash, hash) {
+        Ok(runs) => runs,
+        Err(fault) => {
+            return Replied {
+                images: Images {
+                    zero: unknown(layout_of(&zero)),
+                    one: None,
+                    target,
+                },
+                result: Err(passed_on(fault)),
+            };
+        }
+    };
+    if runs {
+        return act_alone(zero, target, flash, Act::Confirm(confirm));
+    }
+    if holds_at(&zero, hash) {
+        return act_alone(zero, target, flash, Act::Mark(mark_of(confirm)));
+    }
+    let images = Images {
+        zero: Held::Mounted(zero),
+        one: None,
+        target,
+    };
+    refused(images, HASH_NOT_FOUND)
+}
+
+/// The first image of two that has this hash is set: image 0 or 1 that runs, or image 0 or 1 that was uploaded.
+fn set_both<F: Flash>(
+    settled: Settled,
+    one: Mounted,
+    flash: &mut F,
+    hash: &[u8],
+    confirm: bool,
+) -> Replied
+    requires places { ArePlaces (F.state flash.old).geometry (both_places settled.zero one) }
+    requires says { IfSome (F.state flash.old).bytes (SettledSay (both_settled settled.zero one settled.target)) }
+    ensures { ImagesAnswer (both_places settled.zero one) 0 settled.target (sets_hash hash.now confirm) result.images result.result (F.state flash.old) (F.state flash.new) }
+{
+    side_laws();
+    sides_are_told_apart();
+    let Settled { zero, target, .. } = settled;
+    let first = match runs_at(&zero, flash, hash) {
+        Ok(runs) => runs,
+        Err(fault) => {
+            let lost = unknown(layout_of(&zero));
+            return failed(with_second(lost, Held::Mounted(one), target), fault);
+        }
+    };
+    if first {
+        return act_zero(zero, one, target, flash, Act::Confirm(confirm));
+    }
+    let second = match runs_at(&one, flash, hash) {
+        Ok(runs) => runs,
+        Err(fault) => {
+            let lost = unknown(layout_of(&one));
+            return failed(with_second(Held::Mounted(zero), lost, target), fault);
+        }
+    };
+    if second {
+        return act_one(zero, one, target, flash, Act::Confirm(confirm));
+    }
+    if holds_at(&zero, hash) {
+        return act_zero(zero, one, target, flash, Act::Mark(mark_of(confirm)));
+    }
+    if holds_at(&one, hash) {
+        return act_one(zero, one, target, flash, Act::Mark(mark_of(confirm)));
+    }
+    let images = with_second(Held::Mounted(zero), Held::Mounted(one), target);
+    refused(images, HASH_NOT_FOUND)
+}
+
+/// The image that has this hash is set, where all images are mounted.
+fn set_settled<F: Flash>(
+    settled: Settled,
+    flash: &mut F,
+    hash: &[u8],
+    confirm: bool,
+) -> Replied
+    requires places { ArePlaces (F.state flash.old).geometry (settled_places settled) }
+    requires says { IfSome (F.state flash.old).bytes (SettledSay settled) }
+    ensures { ImagesAnswer (settled_places settled) 0 settled.target (sets_hash hash.now confirm) result.images result.result (F.state flash.old) (F.state flash.new) }
+{
+    let Settled { zero, one, target } = settled;
+    match one {
+        None => set_alone(zero, target, flash, hash, confirm),
+        Some(one) => {
+            let first = alone(zero, target);
+            set_both(first, one, flash, hash, confirm)
+        }
+    }
+}
