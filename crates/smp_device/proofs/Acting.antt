@@ -1,34 +1,30 @@
 -- An act on the side of an image, and the list after it.
-use Rattle.std.proofs.Common.{◌≡◌, ◌≤◌, ℕ, Bool, true, false, Option, Some, None, List, [], ◌∷◌, ◌++◌, Result, Ok, Err, refl, sym, ◌∙◌, ap, subst, arith}
-use Rattle.std.specs.Prelude.{IfSome, OnOk, IfOk, option_map}
+use Rattle.std.proofs.Common.{◌≡◌, ℕ, true, false, Option, Some, None, List, [], ◌∷◌, ◌++◌, Result, Ok, Err, refl, sym, ◌∙◌, ap, subst}
+use Rattle.std.specs.Prelude.{IfSome, OnOk, IfOk}
 use Rattle.smp_flash.specs.Area.{Told, Keeps}
 use Rattle.smp_flash.specs.Calls.{Calls}
-use Rattle.smp_flash.specs.Layout.{progress_of}
-use Rattle.smp_flash.specs.State.{FlashState, End}
+use Rattle.smp_flash.specs.State.{FlashState}
 use Rattle.smp_flash.specs.State.End.{Went}
 use Rattle.smp_flash.specs.declared.geometry.Geometry.{Geometry}
 use Rattle.smp_flash.specs.declared.layout.Layout.{Layout}
 use Rattle.smp_flash.proofs.Passing.{Calls-after, Calls-wider}
-use Rattle.smp_flash.proofs.Telling.{Told-trans, Told-map}
-use Rattle.smp_gate.specs.Newest.{AgesAtMost}
 use Rattle.smp_model.specs.declared.device.AbstractDevice.{AbstractDevice}
 use Rattle.smp_model.specs.declared.device.Side.{Side}
 use Rattle.smp_model.specs.declared.reply.Reply.{Reply}
-use Rattle.smp_model.specs.ImageGroup.{images_of, lists_after, lists_with, refuses_image}
+use Rattle.smp_model.specs.ImageGroup.{images_of, lists_after, lists_with}
 use Rattle.smp_model.specs.Response.{Response, SideResponse, responds}
 use Rattle.smp_model.specs.Said.{Said, said_of, if_some}
-use Rattle.smp_model.specs.Said as said
 use Rattle.smp_model.specs.Sides.{SideStep, side_applied}
 use Rattle.smp_model.specs.Steps.{Step, applied, on_side, side_at, with_side, Part}
-use Rattle.smp_upload.specs.Moves.{Moves, Does, Moved, Done, KeepsPending, mount_spots}
+use Rattle.smp_upload.specs.Moves.{Moves, Does, Done, mount_spots}
 use Rattle.smp_upload.specs.Bytes.{Apart, SideStands}
 use Rattle.smp_upload.specs.declared.states.UploadFault.{UploadFault}
 use Rattle.smp_upload.proofs.Composing.{shows_stands}
-use Rattle.smp_side.specs.Held.{Answers, held_layout, HeldSays, Caused, ResultCaused, Tells, response_of, result_end, steps_by}
+use Rattle.smp_side.specs.Held.{Answers, held_layout, HeldSays, ResultCaused, Tells, response_of, result_end, steps_by}
 use Rattle.smp_side.specs.declared.held.Handed.{Handed}
-use Rattle.smp_device.specs.Answers.{ImagesAnswer, ImagesReached, ImagesMove, ImagesDo, ImagesTell, ImagesCaused, ResultCausedIn}
+use Rattle.smp_device.specs.Answers.{ImagesAnswer, ImagesReached, ImagesMove, ImagesDo, ImagesTell, ResultCausedIn}
 use Rattle.smp_device.specs.Laws.{Laws}
-use Rattle.smp_device.specs.Places.{Places, ArePlaces, place_at, spots_of, StandsAt, ImagesStand, AtEach, places_of, ImagesSay}
+use Rattle.smp_device.specs.Places.{Places, ArePlaces, place_at, spots_of, ImagesStand, places_of, ImagesSay}
 use Rattle.smp_device.specs.Setting.{act_steps, acts_of, acts_on, is_empty}
 use Rattle.smp_device.specs.declared.images.Images.{Images}
 use Rattle.smp_device.specs.declared.images.Replied.{Replied}
@@ -38,10 +34,10 @@ use Rattle.smp_upload.specs.States.{known_mounted, Says}
 use Rattle.smp_upload.specs.declared.states.Mounted.{Mounted}
 use Rattle.smp_side.specs.declared.held.Held.{Held}
 use Rattle.smp_side.specs.declared.held.Held.TheVariants as helds
-use Rattle.smp_device.proofs.Lifting.{side_here, stands_with, steps_target, with_found, with_other, with_target, applied_append, told_two, caused_one}
+use Rattle.smp_device.proofs.Lifting.{side_here, stands_with, steps_target, with_found, with_other, with_target, told_two, caused_one}
 use Rattle.smp_device.proofs.Asking.{one_zero, zero_one}
 use Rattle.smp_device.proofs.Parting.{apart_of, covers_at, ages_each, pending_each}
-use Rattle.smp_device.proofs.Settlements.{ages_both, ages_wider, pending_both, result_before, reached_behind, reached_more}
+use Rattle.smp_device.proofs.Settlements.{ages_both, pending_both, result_before, reached_behind}
 
 -- The response to an act, of a side and of the device.
 
@@ -78,7 +74,7 @@ act_does laws g p are i l at t act old new does keeps = λ d stands.
     let x = (acting act h.side).steps in
     let e = applied (on_side i x) d in
     let here : ImagesStand p t e new = stands_with laws g p are i l at t t d e (side_applied x h.side) old new keeps stands (laws.found i x d h.side h.found) (λ j other. laws.others i j x d other)
-        (steps_target laws i x d h.side h.found ∙ stands.target_is) (shows_stands l (side_applied x h.side) new (does.does h.side h.stands)) in
+    (steps_target laws i x d h.side h.found ∙ stands.target_is) (shows_stands l (side_applied x h.side) new (does.does h.side h.stands)) in
     let there : ImagesStand p t (applied (lists_with i (act_steps act h.side) d).steps d) new = subst (λ (s : List Step). ImagesStand p t (applied s d) new) (sym (steps_are i (act_steps act h.side) d)) here in
     subst (λ (o : Option Side). ImagesStand p t (applied (acts_of act i o d).steps d) new) (sym h.found) there
 
@@ -267,7 +263,7 @@ alone_listed laws m n t act reply handed r a b c are held is e f list =
     let l = (known_mounted m).layout in
     let same : (known_mounted n).layout ≡ l = ap held_layout (sym held) ∙ f.layout_kept in
     let here : ImagesAnswer (alone_places m) 0 t (lists_after []) r.images r.result b c =
-        subst (λ (k : Layout). ImagesAnswer (record { first = k; second = None }) 0 t (lists_after []) r.images r.result b c) same list in
+    subst (λ (k : Layout). ImagesAnswer (record { first = k; second = None }) 0 t (lists_after []) r.images r.result b c) same list in
     act_listed laws a.geometry (alone_places m) are 0 l refl t act reply handed r.images r.result a b c is e f here
 
 -- Of two images.

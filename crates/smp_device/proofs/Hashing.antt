@@ -1,10 +1,11 @@
 -- The image that a hash means.
-use Rattle.std.proofs.Common.{◌≡◌, ◌≤◌, ℕ, Bool, true, false, Option, Some, None, List, [], ◌∷◌, Result, Ok, Err, refl, sym, ◌∙◌, ap, subst, if◌then◌else◌}
+use Rattle.std.proofs.Common.{◌≡◌, ℕ, Bool, true, false, Option, Some, None, List, [], ◌∷◌, Result, Ok, Err, refl, sym, ◌∙◌, ap, subst, arith, length, ◌<◌, ◌==◌, if◌then◌else◌}
+use Rattle.std.proofs.lemmas.Bool.Decides.{nat_tests}
 use Rattle.std.specs.Prelude.{IfSome, IsSome, OnOk, IfOk}
 use Rattle.smp_flash.specs.Area.{Told}
 use Rattle.smp_flash.specs.Calls.{Calls}
 use Rattle.smp_flash.specs.Layout.{area_spot, progress_of, slot_of}
-use Rattle.smp_flash.specs.State.{FlashState, End, fault_end}
+use Rattle.smp_flash.specs.State.{FlashState, fault_end}
 use Rattle.smp_flash.specs.State.End.{Went}
 use Rattle.smp_flash.specs.declared.flash.CallFault.{CallFault}
 use Rattle.smp_flash.specs.declared.layout.Layout.{Layout}
@@ -16,23 +17,21 @@ use Rattle.smp_model.specs.declared.image.ImageInfo.{ImageInfo}
 use Rattle.smp_model.specs.declared.reply.Reply.{Reply}
 use Rattle.smp_model.specs.declared.reply.Reply.TheVariants as replied
 use Rattle.smp_model.specs.declared.upload.Mark.{Mark}
-use Rattle.smp_model.specs.ImageGroup.{confirms_on, has_hash, holds, mark_of, marks_on, refuses_image, runs, sets_hash}
-use Rattle.smp_model.specs.Response.{Response, reply_alone}
+use Rattle.smp_model.specs.ImageGroup.{confirms_on, has_hash, holds, mark_of, marks_on, refuses_image, runs, sets_hash, sets_image, sets_no_hash}
+use Rattle.smp_model.specs.Response.{Response, reply_alone, settling}
 use Rattle.smp_model.specs.Said.{said_of}
 use Rattle.smp_model.specs.Steps.{applied, side_at, Part}
-use Rattle.smp_upload.specs.Bytes.{SideStands}
 use Rattle.smp_upload.specs.Faults.{of_call}
 use Rattle.smp_upload.specs.Moves.{KeepsPending}
 use Rattle.smp_upload.specs.States.{Knows, Says, known_mounted}
 use Rattle.smp_upload.specs.declared.states.Mounted.{Mounted}
 use Rattle.smp_upload.specs.declared.states.UploadFault.{UploadFault}
 use Rattle.smp_upload.proofs.Sides.{OneSide, says_knows}
-use Rattle.smp_side.specs.Held.{held_layout, HeldSays, result_end}
+use Rattle.smp_side.specs.Held.{held_layout, result_end}
 use Rattle.smp_side.specs.declared.held.Held.{Held}
 use Rattle.smp_side.specs.declared.held.Held.TheVariants as helds
-use Rattle.smp_device.specs.Answers.{ImagesAnswer, ImagesReached, ImagesMove, ImagesDo, ImagesTell, ResultCausedIn}
-use Rattle.smp_device.specs.Laws.{Laws}
-use Rattle.smp_device.specs.Places.{Places, ArePlaces, place_at, spots_of, StandsAt, ImagesStand, AtEach, places_of, ImagesSay}
+use Rattle.smp_device.specs.Answers.{ImagesAnswer, ImagesMove, ImagesDo, ImagesTell, ResultCausedIn}
+use Rattle.smp_device.specs.Places.{Places, place_at, spots_of, ImagesStand, ImagesSay}
 use Rattle.smp_device.specs.Setting.{RunsIs, acts_of, acts_on}
 use Rattle.smp_device.specs.Settling.{SettledSay, alone_places, alone_settled, both_places, both_settled, unknown_at}
 use Rattle.smp_device.specs.declared.images.Images.{Images}
@@ -40,6 +39,7 @@ use Rattle.smp_device.specs.declared.images.Replied.{Replied}
 use Rattle.smp_device.specs.declared.sets.Act.{Act}
 use Rattle.smp_device.specs.declared.sets.Act.TheVariants as acts
 use Rattle.smp_device.proofs.Asking.{no_side}
+use Rattle.smp_device.proofs.Fields.{SameFor}
 use Rattle.smp_device.proofs.Lifting.{side_here}
 use Rattle.smp_device.proofs.Listings.{calls_at, quiet, quiet_broken, unknown_is, unknown_says}
 
@@ -121,7 +121,7 @@ holds_none p t hash u none = λ d stands. ap (holds hash) (no_side 1 p d u p.sec
 -- the response, by the four answers
 sets_by : (hash : List ℕ) (confirm : Bool) (d : AbstractDevice) (a b c e : Bool) → runs hash (side_at 0 d) ≡ a → runs hash (side_at 1 d) ≡ b → holds hash (side_at 0 d) ≡ c → holds hash (side_at 1 d) ≡ e
     → sets_hash hash confirm d ≡ (if a then confirms_on 0 confirm (side_at 0 d) d else if b then confirms_on 1 confirm (side_at 1 d) d
-        else if c then marks_on 0 confirm (side_at 0 d) d else if e then marks_on 1 confirm (side_at 1 d) d else refuses_image 8)
+    else if c then marks_on 0 confirm (side_at 0 d) d else if e then marks_on 1 confirm (side_at 1 d) d else refuses_image 8)
 sets_by hash confirm d a b c e p q r s = λ i. if p i then confirms_on 0 confirm (side_at 0 d) d else if q i then confirms_on 1 confirm (side_at 1 d) d
     else if r i then marks_on 0 confirm (side_at 0 d) d else if s i then marks_on 1 confirm (side_at 1 d) d else refuses_image 8
 
@@ -198,7 +198,7 @@ alone_holds one m t hash confirm b c mark x e f is has r says =
     let p = alone_places m in
     some_two (RunsIs (known_mounted m).layout hash b) (SettledSay (alone_settled m t)) (SameHere p t (acts_on (acts.Mark mark) 0) (sets_hash hash confirm)) x
     (λ u k s. first_holds p t hash confirm mark u is (runs_there p t 0 (known_mounted m).layout hash false u refl (subst (λ (q : Bool). RunsIs (known_mounted m).layout hash q u) e k)) (runs_none p t hash u refl)
-        (holds_there one p t 0 m hash true u refl (sym f ∙ has) s.first)) r says
+    (holds_there one p t 0 m hash true u refl (sym f ∙ has) s.first)) r says
 
 pub alone_none : OneSide → (m : Mounted) (t : ℕ) (hash : List ℕ) (confirm b c : Bool) (r : Replied) (a d : FlashState) → b ≡ false → c ≡ false → c ≡ has_hash hash (known_mounted m).image
     → Calls (area_spot (slot_of (known_mounted m).layout 0) ∷ []) Went a d → d.bytes ≡ a.bytes
@@ -209,10 +209,10 @@ alone_none one m t hash confirm b c r a d e f has calls kept runs2 says is =
     let images : Images = record { zero = helds.Mounted m; one = None; target = t } in
     subst (λ (x : Replied). ImagesAnswer p 0 t (sets_hash hash confirm) x.images x.result a d) (sym is)
     (quiet p 0 t (sets_hash hash confirm) images (replied.GroupError 1 8) a d refl refl (calls_at p 0 p.first Went a d refl calls) kept
-      (some_map (SettledSay (alone_settled m t)) (ImagesSay images) a.bytes (λ v s. record { first = s.first; second = tt }) says)
-      (some_two (RunsIs (known_mounted m).layout hash b) (SettledSay (alone_settled m t)) (λ u. (x : AbstractDevice) → ImagesStand p t x u → sets_hash hash confirm x ≡ reply_alone (said_of (replied.GroupError 1 8))) a.bytes
-        (λ u k s x stands. sym (none_has p t hash confirm u (runs_there p t 0 (known_mounted m).layout hash false u refl (subst (λ (q : Bool). RunsIs (known_mounted m).layout hash q u) e k)) (runs_none p t hash u refl)
-            (holds_there one p t 0 m hash false u refl (sym f ∙ has) s.first) (holds_none p t hash u refl) x stands)) runs2 says))
+    (some_map (SettledSay (alone_settled m t)) (ImagesSay images) a.bytes (λ v s. record { first = s.first; second = tt }) says)
+    (some_two (RunsIs (known_mounted m).layout hash b) (SettledSay (alone_settled m t)) (λ u. (x : AbstractDevice) → ImagesStand p t x u → sets_hash hash confirm x ≡ reply_alone (said_of (replied.GroupError 1 8))) a.bytes
+    (λ u k s x stands. sym (none_has p t hash confirm u (runs_there p t 0 (known_mounted m).layout hash false u refl (subst (λ (q : Bool). RunsIs (known_mounted m).layout hash q u) e k)) (runs_none p t hash u refl)
+    (holds_there one p t 0 m hash false u refl (sym f ∙ has) s.first) (holds_none p t hash u refl) x stands)) runs2 says))
 
 -- Of a device of two.
 
@@ -251,7 +251,7 @@ both_runs_1 m n t hash confirm b c x y kept e g f h =
     let p = both_places m n in
     some_two (RunsIs (known_mounted m).layout hash b) (RunsIs (known_mounted n).layout hash c) (SameHere p t (acts_on (acts.Confirm confirm) 1) (sets_hash hash confirm)) x
     (λ u k l. second_runs p t hash confirm u (runs_there p t 0 (known_mounted m).layout hash false u refl (subst (λ (q : Bool). RunsIs (known_mounted m).layout hash q u) e k))
-        (runs_there p t 1 (known_mounted n).layout hash true u refl (subst (λ (q : Bool). RunsIs (known_mounted n).layout hash q u) g l))) f
+    (runs_there p t 1 (known_mounted n).layout hash true u refl (subst (λ (q : Bool). RunsIs (known_mounted n).layout hash q u) g l))) f
     (subst (λ (z : Option (List ℕ)). IfSome z (RunsIs (known_mounted n).layout hash c)) kept h)
 
 pub both_holds_0 : (p : Places) (t : ℕ) (hash : List ℕ) (confirm b c e f : Bool) (mark : Mark) (x : Option (List ℕ)) → mark ≡ mark_of confirm → b ≡ false → c ≡ false → e ≡ true → IfSome x (Four p t hash b c e f)
@@ -319,6 +319,30 @@ both_none m n t hash confirm b c e f images r x y z eb ec ee ef four calls kept 
     let known : Images = record { zero = helds.Mounted m; one = Some (helds.Mounted n); target = t } in
     as_replied p t (sets_hash hash confirm) r images known (Ok (replied.GroupError 1 8)) x z h g
     (quiet p 0 t (sets_hash hash confirm) known (replied.GroupError 1 8) x z refl refl (Calls-after (spots_of p) Went x y z (calls_at p 0 p.first Went x y refl calls) (calls_at p 1 (known_mounted n).layout Went y z refl more)) (still ∙ kept)
-      (some_map (SettledSay (both_settled m n t)) (ImagesSay known) x.bytes (λ v s. record { first = s.first; second = s.second }) says)
-      (some_map (Four p t hash b c e f) (λ u. (d : AbstractDevice) → ImagesStand p t d u → sets_hash hash confirm d ≡ reply_alone (said_of (replied.GroupError 1 8))) x.bytes
-        (λ u w d stands. sym (none_has p t hash confirm u (λ k st. w.runs_0 k st ∙ eb) (λ k st. w.runs_1 k st ∙ ec) (λ k st. w.holds_0 k st ∙ ee) (λ k st. w.holds_1 k st ∙ ef) d stands)) four))
+    (some_map (SettledSay (both_settled m n t)) (ImagesSay known) x.bytes (λ v s. record { first = s.first; second = s.second }) says)
+    (some_map (Four p t hash b c e f) (λ u. (d : AbstractDevice) → ImagesStand p t d u → sets_hash hash confirm d ≡ reply_alone (said_of (replied.GroupError 1 8))) x.bytes
+    (λ u w d stands. sym (none_has p t hash confirm u (λ k st. w.runs_0 k st ∙ eb) (λ k st. w.runs_1 k st ∙ ec) (λ k st. w.holds_0 k st ∙ ee) (λ k st. w.holds_1 k st ∙ ef) d stands)) four))
+
+-- The request.
+
+-- without a hash the image that runs is confirmed, or the request is invalid
+pub running_refused : (p : Places) (t : ℕ) (confirm : Bool) → confirm ≡ false → SameFor p t (λ d. sets_no_hash d confirm) (λ d. reply_alone (said_of (replied.SmpError 3)))
+running_refused p t confirm e = λ d bytes stands. ap (λ (c : Bool). sets_no_hash d c) e
+
+pub running_confirmed : (p : Places) (t : ℕ) (confirm : Bool) → confirm ≡ true → SameFor p t (λ d. settling d (acts_on (acts.Confirm true) 0)) (λ d. sets_no_hash d confirm)
+running_confirmed p t confirm e = λ d bytes stands. sym (ap (λ (c : Bool). sets_no_hash d c) e)
+
+hash_by : (hash : List ℕ) (confirm : Bool) (d : AbstractDevice) (b : Bool) → 0 < length hash → (length hash == 32) ≡ b
+    → sets_image d (Some hash) confirm ≡ (if b then settling d (sets_hash hash confirm) else refuses_image 24)
+hash_by [] confirm d b lt e = absurd (omega arith)
+hash_by (x ∷ xs) confirm d b lt e = ap (λ (c : Bool). if c then settling d (sets_hash (x ∷ xs) confirm) else refuses_image 24) e
+
+pub hash_empty : (p : Places) (t : ℕ) (hash : List ℕ) (confirm : Bool) → length hash ≡ 0 → SameFor p t (λ d. sets_no_hash d confirm) (λ d. sets_image d (Some hash) confirm)
+hash_empty p t [] confirm e = λ d bytes stands. refl
+hash_empty p t (x ∷ xs) confirm e = absurd (omega arith)
+
+pub hash_wrong : (p : Places) (t : ℕ) (hash : List ℕ) (confirm : Bool) → (length hash ≡ 0 → ⊥) → (length hash ≡ 32 → ⊥) → SameFor p t (λ d. sets_image d (Some hash) confirm) (λ d. refuses_image 24)
+hash_wrong p t hash confirm some wrong = λ d bytes stands. hash_by hash confirm d false (omega (arith, some)) (grind (arith, nat_tests, wrong))
+
+pub hash_right : (p : Places) (t : ℕ) (hash : List ℕ) (confirm : Bool) → length hash ≡ 32 → SameFor p t (λ d. settling d (sets_hash hash confirm)) (λ d. sets_image d (Some hash) confirm)
+hash_right p t hash confirm right = λ d bytes stands. sym (hash_by hash confirm d true (omega (arith, right)) (grind (arith, nat_tests, right)))

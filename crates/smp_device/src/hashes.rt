@@ -1,13 +1,12 @@
 //! Marks and confirmations, by the hash of an image.
 
-ghost use Rattle.std.specs.Prelude.{◌≡◌, ◌∷◌, [], Err, IfOk, IfSome};
+ghost use Rattle.std.specs.Prelude.{◌≡◌, ◌∷◌, [], Err, Some, true, IfOk, IfSome, option_map};
 ghost use Rattle.smp_flash.specs.Calls.{Calls};
 ghost use Rattle.smp_flash.specs.Layout.{area_spot, geometry_of, slot_of};
 ghost use Rattle.smp_flash.specs.State.{ended};
 ghost use Rattle.smp_model.specs.Does.{does};
-ghost use Rattle.smp_model.specs.ImageGroup.{confirms_on, has_hash, mark_of, sets_hash};
+ghost use Rattle.smp_model.specs.ImageGroup.{has_hash, mark_of, sets_hash, sets_image, sets_no_hash};
 ghost use Rattle.smp_model.specs.Meant as meant;
-ghost use Rattle.smp_model.specs.Steps.{side_at};
 ghost use Rattle.smp_upload.specs.Faults.{of_call};
 ghost use Rattle.smp_upload.specs.States.{Says, known_mounted};
 ghost use Rattle.smp_device.specs.Answers.{ImagesAnswer};
@@ -15,12 +14,13 @@ ghost use Rattle.smp_device.specs.Places.{ArePlaces, ImagesSay, places_of};
 ghost use Rattle.smp_device.specs.Setting.{RunsIs, acts_on};
 ghost use Rattle.smp_device.specs.Settling.{SettledSay, alone_places, alone_settled, both_places, both_settled, settled_places};
 ghost use Rattle.smp_device.specs.Uploads.{sizes_of};
+ghost use Rattle.smp_device.specs.declared.sets.Act.TheVariants as acts;
 
 use crate::images::{Images, Replied};
 use crate::laws::side_laws;
 use crate::lists::{passed_on, unknown};
 use crate::sets::{Act, act_alone, act_one, act_zero, with_second};
-use crate::settled::{Settled, alone};
+use crate::settled::{Settled, alone, settle_all};
 use crate::uploads::refused;
 use smp_flash::{CallFault, Flash};
 use smp_model::error::{HASH_NOT_FOUND, INVALID_DIGEST, INVALID_VALUE};
@@ -159,12 +159,7 @@ fn set_both<F: Flash>(
 }
 
 /// The image that has this hash is set, where all images are mounted.
-fn set_settled<F: Flash>(
-    settled: Settled,
-    flash: &mut F,
-    hash: &[u8],
-    confirm: bool,
-) -> Replied
+fn set_settled<F: Flash>(settled: Settled, flash: &mut F, hash: &[u8], confirm: bool) -> Replied
     requires places { ArePlaces (F.state flash.old).geometry (settled_places settled) }
     requires says { IfSome (F.state flash.old).bytes (SettledSay settled) }
     ensures { ImagesAnswer (settled_places settled) 0 settled.target (sets_hash hash.now confirm) result.images result.result (F.state flash.old) (F.state flash.new) }
@@ -176,5 +171,70 @@ fn set_settled<F: Flash>(
             let first = alone(zero, target);
             set_both(first, one, flash, hash, confirm)
         }
+    }
+}
+
+/// Image 0 is confirmed, where all images are mounted.
+fn confirm_settled<F: Flash>(settled: Settled, flash: &mut F) -> Replied
+    requires places { ArePlaces (F.state flash.old).geometry (settled_places settled) }
+    requires says { IfSome (F.state flash.old).bytes (SettledSay settled) }
+    ensures { ImagesAnswer (settled_places settled) 0 settled.target (acts_on (acts.Confirm true) 0) result.images result.result (F.state flash.old) (F.state flash.new) }
+{
+    let Settled { zero, one, target } = settled;
+    match one {
+        None => act_alone(zero, target, flash, Act::Confirm(true)),
+        Some(one) => act_zero(zero, one, target, flash, Act::Confirm(true)),
+    }
+}
+
+/// No hash: the image that runs as image 0 is meant, and it can only be confirmed.
+fn set_running<F: Flash>(images: Images, flash: &mut F, confirm: bool) -> Replied
+    requires places { ArePlaces (F.state flash.old).geometry (places_of images) }
+    requires says { IfSome (F.state flash.old).bytes (ImagesSay images) }
+    ensures { ImagesAnswer (places_of images) 5 images.target (λ d. sets_no_hash d confirm) result.images result.result (F.state flash.old) (F.state flash.new) }
+{
+    side_laws();
+    if !confirm {
+        return Replied {
+            images,
+            result: Ok(Reply::SmpError(INVALID_VALUE)),
+        };
+    }
+    match settle_all(images, flash) {
+        Ok(settled) => confirm_settled(settled, flash),
+        Err(replied) => replied,
+    }
+}
+
+/// The image of this hash is marked or confirmed; an empty hash is none.
+fn set_hash<F: Flash>(images: Images, flash: &mut F, hash: &[u8], confirm: bool) -> Replied
+    requires places { ArePlaces (F.state flash.old).geometry (places_of images) }
+    requires says { IfSome (F.state flash.old).bytes (ImagesSay images) }
+    ensures { ImagesAnswer (places_of images) 5 images.target (λ d. sets_image d (Some hash.now) confirm) result.images result.result (F.state flash.old) (F.state flash.new) }
+{
+    side_laws();
+    if hash.len() == 0 {
+        return set_running(images, flash, confirm);
+    }
+    if hash.len() != 32 {
+        return refused(images, INVALID_DIGEST);
+    }
+    match settle_all(images, flash) {
+        Ok(settled) => set_settled(settled, flash, hash, confirm),
+        Err(replied) => replied,
+    }
+}
+
+/// Marks an image to run, or confirms the one that runs, and lists the images.
+///
+/// A hash means the first image that has it: image 0 or 1 that runs, or image 0 or 1 that was uploaded.
+pub fn set<F: Flash>(images: Images, flash: &mut F, hash: Option<&[u8]>, confirm: bool) -> Replied
+    requires places { ArePlaces (F.state flash.old).geometry (places_of images) }
+    requires says { IfSome (F.state flash.old).bytes (ImagesSay images) }
+    ensures { ImagesAnswer (places_of images) 5 images.target (λ d. does (sizes_of (F.state flash.old).geometry) d (meant.image_set (option_map (λ h. h.now) hash.entry) confirm)) result.images result.result (F.state flash.old) (F.state flash.new) }
+{
+    match hash {
+        None => set_running(images, flash, confirm),
+        Some(hash) => set_hash(images, flash, hash, confirm),
     }
 }

@@ -1,4 +1,12 @@
-//! The device that is managed, over a flash that may be cut or fail. So far: the requests about one of its images.
+//! The device that is managed, over a flash that may be cut or fail. So far: its requests about images.
+//!
+//! ```text
+//! upload   a part of an upload        erase   an upload is given up, and its slot erased
+//! list     the images                 set     an image is marked to run, or confirmed
+//! ```
+//!
+//! `Images` holds the side of each image, mounted or not, and the target of parts. Each call takes it, and hands it back with the reply
+//! or the fault that broke the request off.
 #![tactic(auto)]
 
 mod hashes;
@@ -10,6 +18,7 @@ mod settled;
 mod side_requests;
 mod uploads;
 
+pub use hashes::set;
 pub use images::{Images, Replied, SideRequest};
 pub use lists::list;
 pub use settled::Settled;

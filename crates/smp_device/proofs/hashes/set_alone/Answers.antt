@@ -1,4 +1,3 @@
-use Rattle.std.proofs.Common.{sym, ◌∙◌}
 use Rattle.smp_model.specs.ImageGroup.{sets_hash}
 use Rattle.smp_device.specs.declared.sets.Act.TheVariants as acts
 use Rattle.smp_device.proofs.Hashing.{alone_failed, alone_acts, alone_runs, alone_holds, alone_none}
