@@ -18,14 +18,14 @@ ghost use Rattle.smp_device.specs.declared.sets.Act.TheVariants as acts;
 
 use crate::images::{Images, Replied};
 use crate::laws::side_laws;
-use crate::lists::{passed_on, unknown};
+use crate::lists::unknown;
 use crate::sets::{Act, act_alone, act_one, act_zero, with_second};
 use crate::settled::{Settled, alone, settle_all};
 use crate::uploads::refused;
 use smp_flash::{CallFault, Flash};
 use smp_model::error::{HASH_NOT_FOUND, INVALID_DIGEST, INVALID_VALUE};
 use smp_model::{Mark, Reply};
-use smp_side::{Held, layout_of};
+use smp_side::{Held, layout_of, passed_on};
 use smp_upload::{Mounted, active_image, sides_are_told_apart};
 
 /// The image that runs has this hash. No byte changes.

@@ -21,6 +21,5 @@ mod uploads;
 pub use hashes::set;
 pub use images::{Images, Replied, SideRequest};
 pub use lists::list;
-pub use settled::Settled;
 pub use side_requests::ask_image;
 pub use uploads::{erase, upload};

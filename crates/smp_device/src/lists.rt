@@ -4,7 +4,6 @@ ghost use Rattle.std.specs.Prelude.{◌≡◌, [], IfSome};
 ghost use Rattle.smp_model.specs.Does.{does};
 ghost use Rattle.smp_model.specs.ImageGroup.{lists_after};
 ghost use Rattle.smp_model.specs.Meant as meant;
-ghost use Rattle.smp_upload.specs.Faults.{of_call};
 ghost use Rattle.smp_device.specs.Answers.{ImagesAnswer};
 ghost use Rattle.smp_device.specs.Places.{ArePlaces, ImagesSay, places_of};
 ghost use Rattle.smp_device.specs.Settling.{SettledSay, alone_places, alone_settled, both_places, both_settled, settled_places, unknown_at};
@@ -13,20 +12,10 @@ ghost use Rattle.smp_device.specs.Uploads.{sizes_of};
 use crate::images::{Images, Replied};
 use crate::laws::side_laws;
 use crate::settled::{Settled, settle_all};
-use smp_flash::{CallFault, Flash, Layout};
+use smp_flash::{Flash, Layout};
 use smp_model::Reply;
-use smp_side::{Held, layout_of, pair};
-use smp_upload::{Mounted, Unmounted, UploadFault};
-
-/// The fault of a call on a slot.
-pub fn passed_on(fault: CallFault) -> UploadFault
-    ensures { result ≡ of_call fault }
-{
-    match fault {
-        CallFault::Fault(operation) => UploadFault::Fault(operation),
-        CallFault::Off => UploadFault::Off,
-    }
-}
+use smp_side::{Held, layout_of, pair, passed_on};
+use smp_upload::{Mounted, Unmounted};
 
 /// An image of which nothing is known any more.
 pub fn unknown(layout: Layout) -> Held

@@ -1,15 +1,10 @@
 //! Marks and confirmations, over images of which all are mounted.
 
 ghost use Rattle.std.specs.Prelude.{◌≡◌, true, Some, IfSome};
-ghost use Rattle.smp_flash.specs.Calls.{Calls};
-ghost use Rattle.smp_flash.specs.Layout.{area_spot, geometry_of, slot_of};
-ghost use Rattle.smp_flash.specs.State.{ended};
-ghost use Rattle.smp_model.specs.ImageGroup.{has_hash, runs};
+ghost use Rattle.smp_flash.specs.Layout.{geometry_of};
 ghost use Rattle.smp_model.specs.Said.{said_of};
-ghost use Rattle.smp_model.specs.declared.device.Side.{Side as Slots};
 ghost use Rattle.smp_side.specs.Held.{Answers, is_mounted, response_of};
 ghost use Rattle.smp_side.specs.declared.held.Held.TheVariants as helds;
-ghost use Rattle.smp_upload.specs.Bytes.{SideStands};
 ghost use Rattle.smp_upload.specs.States.{Says, known_mounted};
 ghost use Rattle.smp_device.specs.Answers.{ImagesAnswer};
 ghost use Rattle.smp_device.specs.Places.{ArePlaces};
@@ -20,10 +15,10 @@ use crate::images::{Images, Replied};
 use crate::laws::side_laws;
 use crate::lists::list_settled;
 use crate::settled::Settled;
-use smp_flash::{CallFault, Flash};
+use smp_flash::Flash;
 use smp_model::{Mark, Reply};
-use smp_side::{Handed, Held, confirm, layout_of, mark};
-use smp_upload::{Mounted, active_image, sides_are_told_apart};
+use smp_side::{Handed, Held, confirm, mark};
+use smp_upload::Mounted;
 
 /// What is to be done with an image.
 #[derive(Clone, Copy, Debug)]

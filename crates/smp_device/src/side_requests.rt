@@ -1,9 +1,7 @@
 //! A request about one image, over the device's images.
 
-ghost use Rattle.std.specs.Prelude.{◌≡◌, ◌+◌, ◌≤◌, ℕ, Err, IfErr, IfSome, length};
-ghost use Rattle.smp_flash.specs.Geometry.{slot_size};
+ghost use Rattle.std.specs.Prelude.{◌≡◌, Err, IfSome};
 ghost use Rattle.smp_flash.specs.Layout.{geometry_of};
-ghost use Rattle.smp_model.specs.Said.{said_of};
 ghost use Rattle.smp_upload.specs.States.{Says, known_mounted};
 ghost use Rattle.smp_side.specs.Held.{Answers};
 ghost use Rattle.smp_device.specs.Answers.{ImagesAnswer};

@@ -1,6 +1,6 @@
 //! Requests for an upload and for an erase: what is refused before the flash is looked at, and the rest.
 
-ghost use Rattle.std.specs.Prelude.{◌≡◌, ◌+◌, ◌-◌, ◌≤◌, ℕ, Ok, None, true, false, IfErr, IfOk, IfSome, IsSome, OnOk, length, option_map};
+ghost use Rattle.std.specs.Prelude.{◌≡◌, ◌-◌, ◌≤◌, Ok, None, true, false, IfErr, IfOk, IfSome, IsSome, OnOk, length, option_map};
 ghost use Rattle.smp_flash.specs.Geometry.{slot_size, Regular, is_lawful};
 ghost use Rattle.std.specs.Prelude.{IsTrue};
 ghost use Rattle.smp_flash.specs.Layout.{geometry_of};

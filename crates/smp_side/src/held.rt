@@ -1,6 +1,6 @@
 //! What is held of the slots of one image.
 
-ghost use Rattle.std.specs.Prelude.{◌≡◌, ℕ, true, OnOk, IfOk, IfErr, IfSome, Err};
+ghost use Rattle.std.specs.Prelude.{◌≡◌, true, OnOk, IfOk, IfErr, IfSome, Err};
 ghost use Rattle.smp_flash.specs.Layout.{geometry_of};
 ghost use Rattle.smp_model.specs.Sides.{side_settle_steps};
 ghost use Rattle.smp_upload.specs.Faults.{IsIdle, of_call, upload_end};
@@ -60,8 +60,8 @@ pub fn mounted<F: Flash>(held: Held, flash: &mut F) -> Result<Mounted, Lost>
     }
 }
 
-/// The fault of a call on a slot.
-fn passed_on(fault: CallFault) -> UploadFault
+/// The fault of a call on a slot, as a request hands it back.
+pub fn passed_on(fault: CallFault) -> UploadFault
     ensures { result ≡ of_call fault }
 {
     match fault {

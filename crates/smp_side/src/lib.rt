@@ -22,7 +22,7 @@ mod tests;
 mod uploading;
 
 pub use erasing::erase;
-pub use held::{Handed, Held, layout_of, lost, mounted};
+pub use held::{Handed, Held, layout_of, lost, mounted, passed_on};
 pub use listing::pair;
 pub use marking::{confirm, mark};
 pub use uploading::{part_at, start};

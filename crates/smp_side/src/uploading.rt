@@ -1,12 +1,12 @@
 //! Parts of an upload.
 
-ghost use Rattle.std.specs.Prelude.{◌≡◌, ◌∷◌, ◌&&◌, ◌+◌, ◌<◌, ◌≤◌, ◌==◌, [], ℕ, Ok, None, Some, true, false, length, option_map, IfSome};
+ghost use Rattle.std.specs.Prelude.{◌≡◌, ◌&&◌, ◌+◌, ◌<◌, ◌≤◌, ◌==◌, Ok, None, Some, true, false, length, option_map, IfSome};
 ghost use Rattle.smp_flash.specs.Calls.{ReadsAtMost};
 ghost use Rattle.smp_flash.specs.Geometry.{slot_size};
 ghost use Rattle.smp_flash.specs.Layout.{geometry_of};
 ghost use Rattle.smp_model.specs.ImageGroup.{begins, start_at, part_at};
 ghost use Rattle.smp_model.specs.Said.{said_of};
-ghost use Rattle.smp_model.specs.Uploads.{is_resumed_by, is_tagged_by, same_digest};
+ghost use Rattle.smp_model.specs.Uploads.{is_resumed_by, is_tagged_by};
 ghost use Rattle.smp_upload.specs.States.{Says, known_idle, known_receiving, known_whole, known_mounted, known_chunked, part_of, chunk_said};
 ghost use Rattle.smp_side.specs.Held.{Answers};
 ghost use Rattle.smp_side.specs.declared.held.Held.TheVariants.{Mounted as holds};
