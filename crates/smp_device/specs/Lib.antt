@@ -5,3 +5,4 @@ pub mod Laws
 pub mod Uploads
 pub mod Settling
 pub mod Setting
+pub mod Goings

@@ -8,7 +8,8 @@ use Rattle.smp_gate.specs.Newest.{newest_generation}
 use Rattle.smp_model.specs.declared.device.Side.{Side}
 use Rattle.smp_model.specs.declared.reply.Reply.{Reply}
 use Rattle.smp_model.specs.Response.{SideResponse, side_responds}
-use Rattle.smp_model.specs.Said.{said_of, is_error}
+use Rattle.smp_model.specs.Errors.{IsGroupError}
+use Rattle.smp_model.specs.Said.{Said, said_of, is_error}
 use Rattle.smp_model.specs.Said as said
 use Rattle.smp_model.specs.ImageGroup.{refuses_part}
 use Rattle.smp_model.specs.Sides.{SideStep, side_applied}
@@ -63,6 +64,13 @@ response_of (Err number) = refuses_part number
 -- the reply is that of whatever side the bytes stand for
 abbrev pub Tells : Layout → (Side → SideResponse) → Option (List ℕ) → Reply → Type 0
 Tells layout respond x reply = IfSome x (λ held. (side : Side) → SideStands layout side held → said_of reply ≡ (respond side).reply)
+
+-- what may be answered about a side: an offset, nothing to say, or an error that is in the table of group errors
+abbrev pub IsAnswer : Said → Type 0
+IsAnswer (said.offset off matched) = Unit {0}
+IsAnswer said.empty = Unit {0}
+IsAnswer (said.group_error group number) = IsGroupError group number
+IsAnswer s = ⊥
 
 -- Why a request was broken off: a flash that tells its bytes is never unformatted, and a record is worn only where n more can't
 -- be put.

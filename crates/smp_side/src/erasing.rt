@@ -6,7 +6,8 @@ ghost use Rattle.smp_flash.specs.Calls.{ReadsAtMost, ChangesAtMost};
 ghost use Rattle.smp_flash.specs.Layout.{geometry_of, slot_of};
 ghost use Rattle.smp_model.specs.ImageGroup.{erase_of};
 ghost use Rattle.smp_upload.specs.States.{Says, known_mounted};
-ghost use Rattle.smp_side.specs.Held.{Answers};
+ghost use Rattle.smp_model.specs.Said.{said_of};
+ghost use Rattle.smp_side.specs.Held.{Answers, IsAnswer};
 
 use crate::held::{Handed, lost};
 use crate::uploading::{refuses, said};
@@ -21,6 +22,7 @@ pub fn erase<F: Flash>(mounted: Mounted, flash: &mut F) -> Handed
     requires layout { geometry_of (known_mounted mounted).layout ≡ (F.state flash.old).geometry }
     requires says { IfSome (F.state flash.old).bytes (Says (known_mounted mounted)) }
     ensures answers { Answers (known_mounted mounted).layout 1 (λ side. erase_of side.pending) result (F.state flash.old) (F.state flash.new) }
+    ensures answer { IfOk result.result (λ reply. IsAnswer (said_of reply)) }
     ensures erased { IfOk result.result (λ reply. reply ≡ Reply.Empty → IfSome (F.state flash.new).bytes (λ held. area (slot_of (known_mounted mounted).layout 1).at (slot_of (known_mounted mounted).layout 1).length held ≡ blank (slot_of (known_mounted mounted).layout 1).length)) }
     ensures reads { ReadsAtMost (4096 + (slot_of (known_mounted mounted).layout 1).length) (F.state flash.old).bytes_read (F.state flash.new).bytes_read }
     ensures changes { ChangesAtMost 2 (8 + (slot_of (known_mounted mounted).layout 1).length / (geometry_of (known_mounted mounted).layout).page) (F.state flash.old).changes (F.state flash.new).changes }

@@ -1,12 +1,13 @@
 //! What is to run at the next start.
 
-ghost use Rattle.std.specs.Prelude.{◌≡◌, ◌+◌, Ok, IfSome, IsSome};
+ghost use Rattle.std.specs.Prelude.{◌≡◌, ◌+◌, Ok, IfOk, IfSome, IsSome};
 ghost use Rattle.smp_flash.specs.Calls.{ReadsAtMost, ChangesAtMost};
 ghost use Rattle.smp_flash.specs.Layout.{geometry_of};
 ghost use Rattle.smp_model.specs.ImageGroup.{confirms, marks, same_mark};
 ghost use Rattle.smp_slot.specs.Marks.{writes_of};
 ghost use Rattle.smp_upload.specs.States.{Says, known_mounted};
-ghost use Rattle.smp_side.specs.Held.{Answers, response_of};
+ghost use Rattle.smp_model.specs.Said.{said_of};
+ghost use Rattle.smp_side.specs.Held.{Answers, IsAnswer, response_of};
 
 use crate::held::{Handed, broken, layout_of, lost};
 use crate::uploading::{refuses, said};
@@ -33,6 +34,7 @@ pub fn mark<F: Flash>(mounted: Mounted, flash: &mut F, mark: Mark) -> Handed
     requires says { IfSome (F.state flash.old).bytes (Says (known_mounted mounted)) }
     requires good { IsSome (known_mounted mounted).image }
     ensures answers { Answers (known_mounted mounted).layout 0 (λ side. response_of (marks mark side.pending)) result (F.state flash.old) (F.state flash.new) }
+    ensures answer { IfOk result.result (λ reply. IsAnswer (said_of reply)) }
     ensures reads { ReadsAtMost (geometry_of (known_mounted mounted).layout).page (F.state flash.old).bytes_read (F.state flash.new).bytes_read }
     ensures changes { ChangesAtMost (writes_of mark) 1 (F.state flash.old).changes (F.state flash.new).changes }
 {
@@ -59,6 +61,7 @@ pub fn confirm<F: Flash>(mounted: Mounted, flash: &mut F, confirm: bool) -> Hand
     requires layout { geometry_of (known_mounted mounted).layout ≡ (F.state flash.old).geometry }
     requires says { IfSome (F.state flash.old).bytes (Says (known_mounted mounted)) }
     ensures answers { Answers (known_mounted mounted).layout 0 (λ side. response_of (confirms confirm side.confirmed)) result (F.state flash.old) (F.state flash.new) }
+    ensures answer { IfOk result.result (λ reply. IsAnswer (said_of reply)) }
     ensures reads { ReadsAtMost (1 + (geometry_of (known_mounted mounted).layout).page) (F.state flash.old).bytes_read (F.state flash.new).bytes_read }
     ensures changes { ChangesAtMost 1 1 (F.state flash.old).changes (F.state flash.new).changes }
 {

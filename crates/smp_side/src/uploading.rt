@@ -1,6 +1,6 @@
 //! Parts of an upload.
 
-ghost use Rattle.std.specs.Prelude.{◌≡◌, ◌&&◌, ◌+◌, ◌<◌, ◌≤◌, ◌==◌, Ok, None, Some, true, false, length, option_map, IfSome};
+ghost use Rattle.std.specs.Prelude.{◌≡◌, ◌&&◌, ◌+◌, ◌<◌, ◌≤◌, ◌==◌, Ok, None, Some, true, false, length, option_map, IfOk, IfSome};
 ghost use Rattle.smp_flash.specs.Calls.{ReadsAtMost};
 ghost use Rattle.smp_flash.specs.Geometry.{slot_size};
 ghost use Rattle.smp_flash.specs.Layout.{geometry_of};
@@ -8,7 +8,7 @@ ghost use Rattle.smp_model.specs.ImageGroup.{begins, start_at, part_at};
 ghost use Rattle.smp_model.specs.Said.{said_of};
 ghost use Rattle.smp_model.specs.Uploads.{is_resumed_by, is_tagged_by};
 ghost use Rattle.smp_upload.specs.States.{Says, known_idle, known_receiving, known_whole, known_mounted, known_chunked, part_of, chunk_said};
-ghost use Rattle.smp_side.specs.Held.{Answers};
+ghost use Rattle.smp_side.specs.Held.{Answers, IsAnswer};
 ghost use Rattle.smp_side.specs.declared.held.Held.TheVariants.{Mounted as holds};
 
 use crate::held::{Handed, Held, lost};
@@ -84,6 +84,7 @@ fn part<F: Flash>(state: Receiving, flash: &mut F, bytes: &[u8]) -> Handed
     requires layout { geometry_of state.layout ≡ (F.state flash.old).geometry }
     requires says { IfSome (F.state flash.old).bytes (Says (known_receiving state)) }
     ensures answers { Answers state.layout 2 (λ side. part_of (geometry_of state.layout).unit bytes.now side.upload) result (F.state flash.old) (F.state flash.new) }
+    ensures answer { IfOk result.result (λ reply. IsAnswer (said_of reply)) }
     ensures reads { length bytes.now ≤ 2048 → ReadsAtMost 200000 (F.state flash.old).bytes_read (F.state flash.new).bytes_read }
 {
     sides_are_told_apart();
@@ -113,6 +114,7 @@ fn begin_idle<F: Flash>(
     requires most { announcement.now.length + (geometry_of state.layout).page ≤ slot_size (geometry_of state.layout) }
     requires says { IfSome (F.state flash.old).bytes (Says (known_idle state)) }
     ensures answers { Answers state.layout 3 (λ _. begins (geometry_of state.layout).unit announcement.now bytes.now) result (F.state flash.old) (F.state flash.new) }
+    ensures answer { IfOk result.result (λ reply. IsAnswer (said_of reply)) }
     ensures reads { length bytes.now ≤ 2048 → ReadsAtMost 204096 (F.state flash.old).bytes_read (F.state flash.new).bytes_read }
 {
     sides_are_told_apart();
@@ -138,6 +140,7 @@ fn begin_receiving<F: Flash>(
     requires most { announcement.now.length + (geometry_of state.layout).page ≤ slot_size (geometry_of state.layout) }
     requires says { IfSome (F.state flash.old).bytes (Says (known_receiving state)) }
     ensures answers { Answers state.layout 3 (λ _. begins (geometry_of state.layout).unit announcement.now bytes.now) result (F.state flash.old) (F.state flash.new) }
+    ensures answer { IfOk result.result (λ reply. IsAnswer (said_of reply)) }
     ensures reads { length bytes.now ≤ 2048 → ReadsAtMost 204096 (F.state flash.old).bytes_read (F.state flash.new).bytes_read }
 {
     sides_are_told_apart();
@@ -163,6 +166,7 @@ fn begin_whole<F: Flash>(
     requires most { announcement.now.length + (geometry_of state.layout).page ≤ slot_size (geometry_of state.layout) }
     requires says { IfSome (F.state flash.old).bytes (Says (known_whole state)) }
     ensures answers { Answers state.layout 3 (λ _. begins (geometry_of state.layout).unit announcement.now bytes.now) result (F.state flash.old) (F.state flash.new) }
+    ensures answer { IfOk result.result (λ reply. IsAnswer (said_of reply)) }
     ensures reads { length bytes.now ≤ 2048 → ReadsAtMost 204096 (F.state flash.old).bytes_read (F.state flash.new).bytes_read }
 {
     sides_are_told_apart();
@@ -203,6 +207,7 @@ pub fn start<F: Flash>(
     requires most { announcement.now.length + (geometry_of (known_mounted mounted).layout).page ≤ slot_size (geometry_of (known_mounted mounted).layout) }
     requires says { IfSome (F.state flash.old).bytes (Says (known_mounted mounted)) }
     ensures answers { Answers (known_mounted mounted).layout 3 (λ side. start_at (geometry_of (known_mounted mounted).layout).unit announcement.now bytes.now side.pending side.upload) result (F.state flash.old) (F.state flash.new) }
+    ensures answer { IfOk result.result (λ reply. IsAnswer (said_of reply)) }
     ensures reads { length bytes.now ≤ 2048 → ReadsAtMost 204096 (F.state flash.old).bytes_read (F.state flash.new).bytes_read }
 {
     sides_are_told_apart();
@@ -282,6 +287,7 @@ pub fn part_at<F: Flash>(
     requires layout { geometry_of (known_mounted mounted).layout ≡ (F.state flash.old).geometry }
     requires says { IfSome (F.state flash.old).bytes (Says (known_mounted mounted)) }
     ensures answers { Answers (known_mounted mounted).layout 2 (λ side. part_at (geometry_of (known_mounted mounted).layout).unit off (option_map (λ t. t.now) tag.entry) bytes.now side.upload) result (F.state flash.old) (F.state flash.new) }
+    ensures answer { IfOk result.result (λ reply. IsAnswer (said_of reply)) }
     ensures reads { length bytes.now ≤ 2048 → ReadsAtMost 200000 (F.state flash.old).bytes_read (F.state flash.new).bytes_read }
 {
     sides_are_told_apart();
