@@ -6,3 +6,9 @@ pub mod Settlements
 pub mod Listings
 pub mod Acting
 pub mod Hashing
+pub mod Frames
+pub mod ServingImages
+pub mod ServingQuietly
+pub mod ToldReplies
+pub mod ServingSettings
+pub mod ServingFiles

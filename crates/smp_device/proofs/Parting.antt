@@ -26,10 +26,10 @@ eq_or_not a b = go (a == b) refl
 
 -- Apart.
 
-first_start : (l : Layout) → image_of l ≡ 0 → start_of (geometry_of l) (image_of l) ≡ 0
+pub first_start : (l : Layout) → image_of l ≡ 0 → start_of (geometry_of l) (image_of l) ≡ 0
 first_start l e = ap (start_of (geometry_of l)) e
 
-second_start : (l : Layout) → image_of l ≡ 1 → start_of (geometry_of l) (image_of l) ≡ first_size (geometry_of l)
+pub second_start : (l : Layout) → image_of l ≡ 1 → start_of (geometry_of l) (image_of l) ≡ first_size (geometry_of l)
 second_start l e = ap (start_of (geometry_of l)) e
 
 behind_first : (first : Layout) (p n : ℕ) → image_of first ≡ 0 → first_size (geometry_of first) ≤ p → Clear (mount_spots first) p n

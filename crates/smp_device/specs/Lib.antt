@@ -6,3 +6,10 @@ pub mod Uploads
 pub mod Settling
 pub mod Setting
 pub mod Goings
+pub mod Up
+pub mod Serving
+pub mod Telling
+pub mod DeviceLaws
+pub mod Handling
+pub mod Showing
+pub mod Starting

@@ -13,9 +13,11 @@ mod hashes;
 mod images;
 mod laws;
 mod lists;
+mod serving;
 mod sets;
 mod settled;
 mod side_requests;
+mod telling;
 mod uploads;
 
 pub use hashes::set;

@@ -1,5 +1,5 @@
 // The files of the device.
-ghost use Rattle.std.specs.Prelude.{◌≡◌, ◌+◌, ◌<◌, ◌≤◌, [], length, option_map, IsTrue, IfOk};
+ghost use Rattle.std.specs.Prelude.{◌≡◌, ◌+◌, ◌<◌, ◌≤◌, [], length, option_map, IsTrue, IfOk, IfSome};
 ghost use Rattle.std.specs.Vec.{vec_capacity};
 ghost use Rattle.smp_model.specs.FileGroup.{writes_file, begins_file};
 ghost use Rattle.smp_model.specs.Files.{file_of, is_file_name};
@@ -46,7 +46,8 @@ impl FileTable {
 
     /// The bytes of a file. None exactly where there is no file of this name.
     pub fn read(&self, name: &str) -> Option<&[u8]>
-        ensures { option_map (λ held. held.now) result ≡ option_map (λ f. f.held) (file_of name.now self.now) }
+        ensures held { option_map (λ held. held.now) result ≡ option_map (λ f. f.held) (file_of name.now self.now) }
+        ensures most { IfSome result (λ held. length held.now ≤ 16384) }
     {
         match find(self.files.as_slice(), name) {
             Some(at) => Some(self.files[at].held()),

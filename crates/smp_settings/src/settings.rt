@@ -1,5 +1,5 @@
 // The settings of a device: the running map and the saved one.
-ghost use Rattle.std.specs.Prelude.{◌≡◌, ◌≢◌, ◌⊎◌, ◌↔◌, ◌-◌, ◌^◌, [], ◌∷◌, option_map, IsTrue, IsOk, IsErrOf, OnOk, OnErr, IfOk, IfSome, IsSome, None, true, false};
+ghost use Rattle.std.specs.Prelude.{◌≡◌, ◌≢◌, ◌⊎◌, ◌↔◌, ◌-◌, ◌^◌, ◌≤◌, [], ◌∷◌, length, option_map, IsTrue, IsOk, IsErrOf, OnOk, OnErr, IfOk, IfSome, IsSome, None, true, false};
 ghost use Rattle.smp_flash.specs.Area.{area, Told};
 ghost use Rattle.smp_flash.specs.Calls.{Calls, ReadsAtMost, ChangesAtMost, Smaller};
 ghost use Rattle.smp_flash.specs.Layout.{geometry_of, settings_of, bank_spots};
@@ -106,7 +106,8 @@ impl Settings {
 
     /// The value of a name that runs. None exactly where the name does not run.
     pub fn read(&self, name: &str) -> Option<&[u8]>
-        ensures { option_map (λ val. val.now) result ≡ value_of name.now self.now.running }
+        ensures val { option_map (λ val. val.now) result ≡ value_of name.now self.now.running }
+        ensures most { IfSome result (λ val. length val.now ≤ 128) }
     {
         self.running.value(name)
     }

@@ -83,7 +83,8 @@ impl Table {
 
     /// The value of a name.
     pub fn value(&self, name: &str) -> Option<&[u8]>
-        ensures { option_map (λ val. val.now) result ≡ value_of name.now self.now }
+        ensures val { option_map (λ val. val.now) result ≡ value_of name.now self.now }
+        ensures most { IfSome result (λ val. length val.now ≤ 128) }
     {
         match self.find(name) {
             Some(at) => Some(self.entries[at].val()),

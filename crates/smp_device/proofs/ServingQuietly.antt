@@ -1,0 +1,100 @@
+-- A request that makes no operation on the flash, served.
+use Rattle.std.proofs.Common.{◌≡◌, ◌⊎◌, inl, inr, ℕ, zero, suc, Bool, true, false, not, Option, Some, None, List, [], ◌∷◌, ◌++◌, Result, Ok, Err, refl, sym, ◌∙◌, ap, subst, arith, if◌then◌else◌}
+use Rattle.std.specs.Prelude.{IfSome, codes}
+use Rattle.std.specs.Str.{bytes_eq}
+use Rattle.smp_flash.specs.Area.{Told}
+use Rattle.smp_flash.specs.Calls.{Calls}
+use Rattle.smp_flash.specs.Layout.{progress_of, settings_of}
+use Rattle.smp_flash.specs.State.{FlashState}
+use Rattle.smp_flash.specs.State.End.{Went}
+use Rattle.smp_flash.specs.declared.geometry.Geometry.{Geometry}
+use Rattle.smp_flash.specs.declared.layout.Layout.{Layout}
+use Rattle.smp_flash.proofs.Passing.{Calls-refl}
+use Rattle.smp_flash.proofs.Telling.{Told-same}
+use Rattle.smp_gate.specs.Newest.{AgesAtMost}
+use Rattle.smp_model.specs.declared.device.AbstractDevice.{AbstractDevice}
+use Rattle.smp_model.specs.declared.device.Counters.{Counters}
+use Rattle.smp_model.specs.declared.device.Side.{Side}
+use Rattle.smp_model.specs.declared.device.StoredFile.{StoredFile}
+use Rattle.smp_model.specs.declared.reply.Reply.{Reply}
+use Rattle.smp_model.specs.declared.setting.Setting.{Setting}
+use Rattle.smp_model.specs.Handled.{response_to}
+use Rattle.smp_model.specs.Meant.{Meant}
+use Rattle.smp_model.specs.Response.{Response}
+use Rattle.smp_model.specs.Said.{Said, said_of}
+use Rattle.smp_model.specs.Steps.{Step, applied, side_at}
+use Rattle.smp_settings.specs.Saved.{SavedStand}
+use Rattle.smp_upload.specs.Moves.{KeepsPending}
+use Rattle.smp_device.specs.Places.{Places, StandsAt, ImagesStand, places_of, place_at}
+use Rattle.smp_device.specs.Serving.{Reached, ReachedFrom, Serves, spots_for}
+use Rattle.smp_device.specs.Up.{Up, Stands, UpSays, Carries}
+use Rattle.smp_device.specs.Uploads.{sizes_of}
+use Rattle.smp_device.specs.declared.images.Images.{Images}
+
+-- what is durable, and the target, are as before
+pub record SameStanding (d e : AbstractDevice) : Type 0 where
+  pub first : e.first ≡ d.first
+  pub second : e.second ≡ d.second
+  pub saved : e.saved ≡ d.saved
+  pub target : e.target ≡ d.target
+
+pub same_standing : (d : AbstractDevice) → SameStanding d d
+same_standing d = record { first = refl; second = refl; saved = refl; target = refl }
+
+-- The reply is the device's, its steps change nothing durable, and memory holds it then.
+pub record Quietly (r : Response) (d : AbstractDevice) (after : Up) (reply : Reply) : Type 0 where
+  pub reply : said_of reply ≡ r.reply
+  pub standing : SameStanding d (applied r.steps d)
+  pub carries : Carries after (applied r.steps d)
+
+side_same : (i : ℕ) (d e : AbstractDevice) → SameStanding d e → side_at i e ≡ side_at i d
+side_same zero d e s = ap (λ (x : Side). Some x) s.first
+side_same (suc zero) d e s = s.second
+side_same (suc (suc i)) d e s = refl
+
+pub stands_same : (p : Places) (t : ℕ) (d e : AbstractDevice) (bytes : List ℕ) → SameStanding d e → Stands p t d bytes → Stands p t e bytes
+stands_same p t d e bytes s stands = record {
+  images = record {
+    sides = λ i. subst (λ (x : Option Side). StandsAt (place_at i p) x bytes) (sym (side_same i d e s)) (stands.images.sides i);
+    target_is = s.target ∙ stands.images.target_is;
+  };
+  saved = subst (λ (x : List Setting). SavedStand p.first x bytes) (sym s.saved) stands.saved;
+}
+
+quiet_told : (g : Geometry) (m : Result Meant ℕ) (up after : Up) (reply : Reply) (x : Option (List ℕ)) → after.images ≡ up.images
+    → ((d : AbstractDevice) → Carries up d → Quietly (response_to (sizes_of g) d m) d after reply)
+    → Told (ReachedFrom (places_of up.images) (λ d. response_to (sizes_of g) d m) up after (Ok reply)) x x
+quiet_told g m up after reply None e f = tt
+quiet_told g m up after reply (Some u) e f = λ d stands carries.
+    let q = f d carries in
+    let r = response_to (sizes_of g) d m in
+    record {
+      taken = r.steps;
+      went = (refl, q.reply);
+      stands = subst (λ (i : Images). Stands (places_of up.images) i.target (applied r.steps d) u) (sym e) (stands_same (places_of up.images) up.images.target d (applied r.steps d) u q.standing stands);
+      carries = q.carries;
+    }
+
+no_age : (layout : Layout) (n : ℕ) (u : List ℕ) → AgesAtMost n (settings_of layout) u u
+no_age layout n u = record { kept = omega arith; most = omega arith }
+
+no_age_of : (layout : Layout) (n : ℕ) (u : List ℕ) → AgesAtMost n (progress_of layout) u u
+no_age_of layout n u = record { kept = omega arith; most = omega arith }
+
+pub quiet : (g : Geometry) (m : Result Meant ℕ) (up after : Up) (reply : Reply) (a : FlashState) → spots_for (places_of up.images) m ≡ [] → after.images ≡ up.images
+    → after.settings.layout ≡ up.settings.layout → after.counters ≡ up.counters → IfSome a.bytes (UpSays after.images after.settings)
+    → ((d : AbstractDevice) → Carries up d → Quietly (response_to (sizes_of g) d m) d after reply) → Serves g m up after (Ok reply) a a
+quiet g m up after reply a spots images layout counters says f =
+    let p = places_of up.images in
+    record {
+      calls = Calls-refl (spots_for p m) a;
+      reached = quiet_told g m up after reply a.bytes images f;
+      says = says;
+      places_kept = ap places_of images;
+      settings_kept = layout;
+      counters_kept = counters;
+      caused = tt;
+      progress_ages = λ i l at. Told-same (AgesAtMost 5 (progress_of l)) a.bytes a.bytes (no_age_of l 5) refl;
+      settings_ages = Told-same (AgesAtMost 1 (settings_of p.first)) a.bytes a.bytes (no_age p.first 1) refl;
+      pending = λ i l at. Told-same (KeepsPending l) a.bytes a.bytes (λ u. record { kept = λ is. refl; still = λ is. refl }) refl;
+    }

@@ -1,0 +1,120 @@
+-- What serving a request does to the device that the flash's bytes and memory stand for.
+use Rattle.std.specs.Prelude.{◌≡◌, ◌-◌, ◌^◌, ◌++◌, ℕ, Bool, true, false, List, [], Option, Some, None, Result, Ok, Err, IfSome, IsSomeAnd, OnOk, if◌then◌else◌}
+use Rattle.smp_flash.specs.Area.{Told}
+use Rattle.smp_flash.specs.Calls.{Calls, Smaller}
+use Rattle.smp_flash.specs.Layout.{progress_of, settings_of, bank_spots}
+use Rattle.smp_flash.specs.State.{FlashState}
+use Rattle.smp_flash.specs.declared.geometry.Geometry.{Geometry}
+use Rattle.smp_flash.specs.declared.layout.Layout.{Layout}
+use Rattle.smp_flash.specs.declared.region.Region.{Region}
+use Rattle.smp_gate.specs.Newest.{AgesAtMost, newest_generation}
+use Rattle.smp_gate.specs.declared.fault.BankFault.{BankFault}
+use Rattle.smp_gate.specs.declared.fault.BankFault.TheVariants as banks
+use Rattle.smp_model.specs.declared.device.AbstractDevice.{AbstractDevice}
+use Rattle.smp_model.specs.declared.reply.Reply.{Reply}
+use Rattle.smp_model.specs.declared.reply.Reply.TheVariants as replied
+use Rattle.smp_model.specs.Handled.{response_to}
+use Rattle.smp_model.specs.Meant as meant
+use Rattle.smp_model.specs.Meant.{Meant}
+use Rattle.smp_model.specs.Response.{Response}
+use Rattle.smp_model.specs.Said.{Said, said_of}
+use Rattle.smp_model.specs.Steps.{Step, applied}
+use Rattle.smp_model.specs.declared.error.TheConstants.{SETTINGS_GROUP, SETTING_NAME_LENGTH, SETTING_VALUE_LENGTH, SETTINGS_FULL}
+use Rattle.smp_settings.specs.declared.fault.SettingFault.{SettingFault}
+use Rattle.smp_settings.specs.declared.fault.SettingFault.TheVariants as writes
+use Rattle.smp_upload.specs.Moves.{KeepsPending}
+use Rattle.smp_upload.specs.declared.states.UploadFault.{UploadFault}
+use Rattle.smp_upload.specs.declared.states.UploadFault.TheVariants as faults
+use Rattle.smp_side.specs.Held.{result_end}
+use Rattle.smp_device.specs.Answers.{WornSomewhere}
+use Rattle.smp_device.specs.Places.{Places, AtEach, spots_of, places_of}
+use Rattle.smp_device.specs.Up.{Up, Stands, UpSays, Carries}
+use Rattle.smp_device.specs.Uploads.{sizes_of}
+
+-- where the operations of a request begin
+abbrev pub spots_by : Places → Meant → List (ℕ × ℕ)
+spots_by p meant.image_list = spots_of p
+spots_by p (meant.image_set hash confirm) = spots_of p
+spots_by p (meant.upload image len off sha part) = spots_of p
+spots_by p (meant.erase slot) = spots_of p
+spots_by p meant.load = bank_spots (settings_of p.first)
+spots_by p meant.save = bank_spots (settings_of p.first)
+spots_by p m = []
+
+abbrev pub spots_for : Places → Result Meant ℕ → List (ℕ × ℕ)
+spots_for p (Ok m) = spots_by p m
+spots_for p (Err number) = []
+
+-- how the request went, by its result: all steps were taken and the reply is the abstract device's, or some first steps
+abbrev pub Went : Response → List Step → Result Reply UploadFault → Type 0
+Went r taken (Ok reply) = (taken ≡ r.steps) × (said_of reply ≡ r.reply)
+Went r taken (Err fault) = (rest : List Step) × (r.steps ≡ taken ++ rest)
+
+-- what came of the device that the flash and memory stood for
+pub record Reached (p : Places) (r : Response) (d : AbstractDevice) (after : Up) (result : Result Reply UploadFault) (new : List ℕ) : Type 0 where
+  pub taken : List Step
+  pub went : Went r taken result
+  pub stands : Stands p after.images.target (applied taken d) new
+  pub carries : Carries after (applied taken d)
+
+abbrev pub ReachedFrom : Places → (AbstractDevice → Response) → (up after : Up) → Result Reply UploadFault → List ℕ → List ℕ → Type 0
+ReachedFrom p respond up after result old new = (d : AbstractDevice) → Stands p up.images.target d old → Carries up d → Reached p (respond d) d after result new
+
+-- Why a request was broken off. A bank is worn only where it can't take the records of a request; a flash that tells its
+-- bytes, and stood for a device, is never unformatted.
+abbrev pub CausedBy : Places → Result Meant ℕ → UploadFault → Option (List ℕ) → Type 0
+CausedBy p m faults.Unformatted x = x ≡ None
+CausedBy p (Ok meant.save) faults.Worn x = IfSome x (λ held. newest_generation (settings_of p.first) held ≡ 2 ^ 32 - 1)
+CausedBy p m faults.Worn x = WornSomewhere p 5 x
+CausedBy p m (faults.Fault operation) x = Unit {0}
+CausedBy p m faults.Off x = Unit {0}
+
+abbrev pub ResultCausedBy : Places → Result Meant ℕ → Result Reply UploadFault → Option (List ℕ) → Type 0
+ResultCausedBy p m (Ok reply) x = Unit {0}
+ResultCausedBy p m (Err fault) x = CausedBy p m fault x
+
+-- A request was served, for whatever device the flash and memory stood for.
+pub record Serves (g : Geometry) (m : Result Meant ℕ) (up after : Up) (result : Result Reply UploadFault) (a b : FlashState) : Type 0 where
+  pub calls : Calls (spots_for (places_of up.images) m) (result_end result) a b
+  pub reached : Told (ReachedFrom (places_of up.images) (λ d. response_to (sizes_of g) d m) up after result) a.bytes b.bytes
+  pub says : IfSome b.bytes (UpSays after.images after.settings)
+  pub places_kept : places_of after.images ≡ places_of up.images
+  pub settings_kept : after.settings.layout ≡ up.settings.layout
+  pub counters_kept : after.counters ≡ up.counters
+  pub caused : ResultCausedBy (places_of up.images) m result a.bytes
+  pub progress_ages : AtEach (λ l. Told (AgesAtMost 5 (progress_of l)) a.bytes b.bytes) (places_of up.images)
+  pub settings_ages : Told (AgesAtMost 1 (settings_of (places_of up.images).first)) a.bytes b.bytes
+  pub pending : AtEach (λ l. Told (KeepsPending l) a.bytes b.bytes) (places_of up.images)
+
+-- the fault of a call on the settings; the last is never answered by these
+abbrev pub of_bank : BankFault → UploadFault
+of_bank banks.Unformatted = faults.Unformatted
+of_bank (banks.Fault operation) = faults.Fault operation
+of_bank banks.Off = faults.Off
+of_bank banks.Worn = faults.Worn
+of_bank banks.Full = faults.Worn
+
+-- the answer of a call on the settings that has nothing to tell
+abbrev pub bank_reply : Result (Unit {0}) BankFault → Result Reply UploadFault
+bank_reply (Ok x) = Ok replied.Empty
+bank_reply (Err fault) = Err (of_bank fault)
+
+-- the requests that may change something
+abbrev pub changes : Meant → Bool
+changes meant.image_list = true
+changes (meant.image_set hash confirm) = true
+changes (meant.upload image len off sha part) = true
+changes (meant.erase slot) = true
+changes (meant.setting_write name val) = true
+changes (meant.setting_delete name) = true
+changes meant.load = true
+changes meant.save = true
+changes (meant.file_write off part len name) = true
+changes m = false
+
+-- the answer to a write of a setting that ended so
+abbrev pub setting_reply : Result (Unit {0}) SettingFault → Reply
+setting_reply (Ok x) = replied.Empty
+setting_reply (Err writes.NameLength) = replied.GroupError SETTINGS_GROUP SETTING_NAME_LENGTH
+setting_reply (Err writes.ValueLength) = replied.GroupError SETTINGS_GROUP SETTING_VALUE_LENGTH
+setting_reply (Err writes.Full) = replied.GroupError SETTINGS_GROUP SETTINGS_FULL

@@ -1,0 +1,105 @@
+-- What a start does: it reads the settings, and then mounts each image.
+use Rattle.std.specs.Prelude.{◌≡◌, ◌⊎◌, ◌++◌, ℕ, zero, suc, List, [], Option, Some, None, Result, Ok, Err, IfSome, IfOk, OnOk, option_map}
+use Rattle.smp_flash.specs.Area.{Told, Keeps}
+use Rattle.smp_flash.specs.Calls.{Calls}
+use Rattle.smp_flash.specs.Layout.{progress_of, settings_of, bank_spots}
+use Rattle.smp_flash.specs.State.{FlashState}
+use Rattle.smp_gate.specs.Newest.{AgesAtMost}
+use Rattle.smp_model.specs.declared.device.AbstractDevice.{AbstractDevice}
+use Rattle.smp_model.specs.Settings.{stored_form}
+use Rattle.smp_model.specs.Steps.{Step, applied, settle_steps, side_at, start}
+use Rattle.smp_upload.specs.Mounting.{IsWorn}
+use Rattle.smp_upload.specs.Moves.{KeepsPending, mount_spots}
+use Rattle.smp_upload.specs.declared.states.UploadFault.{UploadFault}
+use Rattle.smp_upload.specs.declared.states.UploadFault.TheVariants as faults
+use Rattle.smp_upload.specs.Bytes.{SideReadable}
+use Rattle.smp_upload.specs.declared.states.Mounted.{Mounted}
+use Rattle.smp_side.specs.Held.{result_end}
+use Rattle.smp_side.specs.declared.held.Held.{Held}
+use Rattle.smp_side.specs.declared.held.Held.TheVariants as helds
+use Rattle.smp_device.specs.Answers.{ImagesReached}
+use Rattle.smp_device.specs.Places.{Places, AtEach, ImagesSay, ImagesStand, spots_of}
+use Rattle.smp_device.specs.Settling.{Settles}
+use Rattle.smp_device.specs.declared.images.Images.{Images}
+use Rattle.smp_device.specs.Showing.{shown_at, shown_side}
+use Rattle.smp_device.specs.Up.{Readable, Shows, Stands}
+use Rattle.smp_device.specs.declared.starting.Begun.{Begun}
+
+-- where the operations of a start begin
+abbrev pub start_spots : Places → List (ℕ × ℕ)
+start_spots p = bank_spots (settings_of p.first) ++ spots_of p
+
+-- The start of the device: the flash shows it, and memory holds what it starts with; what is shown of its images and of its
+-- settings is its own.
+pub record Started (p : Places) (d : AbstractDevice) (begun : Begun) (bytes : List ℕ) : Type 0 where
+  pub shows : Shows p begun.images.target (start d) bytes
+  pub running : begun.settings.running ≡ (start d).running
+  pub form : begun.settings.form ≡ stored_form (start d).saved
+  pub shown : (image : ℕ) → shown_at image begun.images begun.confirmed ≡ option_map shown_side (side_at image (start d))
+
+-- it was broken off: some first steps of settling were taken
+pub record Unstarted (p : Places) (d : AbstractDevice) (bytes : List ℕ) : Type 0 where
+  pub taken : List Step
+  pub rest : List Step
+  pub split : settle_steps d ≡ taken ++ rest
+  pub stands : Stands p d.target (applied taken d) bytes
+
+abbrev pub StartsOn : Places → Result Begun UploadFault → List ℕ → List ℕ → Type 0
+StartsOn p (Ok begun) old new = (d : AbstractDevice) → Stands p d.target d old → Started p d begun new
+StartsOn p (Err fault) old new = (d : AbstractDevice) → Stands p d.target d old → Unstarted p d new
+
+-- the record of an image can't take the records that its mount needs, when image 0 was mounted where it is image 1's
+abbrev pub WornAt : Places → (image : ℕ) → List ℕ → Type 0
+WornAt p zero bytes = IsWorn p.first bytes
+WornAt p (suc zero) bytes = IfSome p.second (λ l. (middle : List ℕ) × (Keeps (mount_spots p.first) bytes middle × IsWorn l middle))
+WornAt p (suc (suc n)) bytes = ⊥
+
+-- Mounting each image.
+
+-- images that are all mounted, when none was aimed at
+abbrev pub alone_images : Mounted → Images
+alone_images zero = record { zero = helds.Mounted zero; one = None; target = 0 }
+
+abbrev pub both_images : (zero one : Mounted) → Images
+both_images zero one = record { zero = helds.Mounted zero; one = Some (helds.Mounted one); target = 0 }
+
+abbrev pub IsMounted : Held → Type 0
+IsMounted (helds.Unmounted u) = ⊥
+IsMounted (helds.Mounted m) = Unit {0}
+
+abbrev pub AreMounted : Images → Type 0
+AreMounted images = IsMounted images.zero × IfSome images.one IsMounted
+
+-- whatever device the bytes stood for, they stand for it after some first steps of settling
+abbrev pub SettleTo : Places → List ℕ → List ℕ → Type 0
+SettleTo p old new = (d : AbstractDevice) → ImagesStand p d.target d old → ImagesReached p d.target d (settle_steps d) new
+
+pub record MountsAll (p : Places) (result : Result Images UploadFault) (a b : FlashState) : Type 0 where
+  pub calls : Calls (spots_of p) (result_end result) a b
+  pub reaches : Told (SettleTo p) a.bytes b.bytes
+  pub settles : OnOk result ((t : ℕ) → Settles p t a b)
+  pub says : IfOk result (λ images. IfSome b.bytes (ImagesSay images))
+  pub mounted : IfOk result AreMounted
+  pub readable : OnOk result (IfSome a.bytes (λ held. AtEach (λ l. SideReadable l held) p))
+  pub unformatted : result ≡ Err faults.Unformatted → IfSome a.bytes (λ held. AtEach (λ l. SideReadable l held) p → ⊥)
+  pub worn : result ≡ Err faults.Worn → IfSome a.bytes (λ held. WornAt p 0 held ⊎ WornAt p 1 held)
+  pub ages : AtEach (λ l. Told (AgesAtMost 2 (progress_of l)) a.bytes b.bytes) p
+  pub pending : AtEach (λ l. Told (KeepsPending l) a.bytes b.bytes) p
+
+-- Why a start ended so: it is unformatted exactly where the bytes stand for no device, and worn only where a mount needs more
+-- records than can be put.
+abbrev pub StartCaused : Places → Result Begun UploadFault → Option (List ℕ) → Type 0
+StartCaused p (Ok begun) x = IfSome x (Readable p)
+StartCaused p (Err faults.Unformatted) x = IfSome x (λ held. Readable p held → ⊥)
+StartCaused p (Err faults.Worn) x = IfSome x (λ held. WornAt p 0 held ⊎ WornAt p 1 held)
+StartCaused p (Err (faults.Fault operation)) x = Unit {0}
+StartCaused p (Err faults.Off) x = Unit {0}
+
+-- The clause of a start.
+pub record Starts (p : Places) (result : Result Begun UploadFault) (a b : FlashState) : Type 0 where
+  pub calls : Calls (start_spots p) (result_end result) a b
+  pub started : Told (StartsOn p result) a.bytes b.bytes
+  pub caused : StartCaused p result a.bytes
+  pub progress_ages : AtEach (λ l. Told (AgesAtMost 2 (progress_of l)) a.bytes b.bytes) p
+  pub settings_ages : Told (AgesAtMost 0 (settings_of p.first)) a.bytes b.bytes
+  pub pending : AtEach (λ l. Told (KeepsPending l) a.bytes b.bytes) p
