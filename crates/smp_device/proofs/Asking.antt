@@ -35,6 +35,7 @@ use Rattle.smp_device.specs.Requests.{side_response, responds_of, responds_on, m
 use Rattle.smp_device.specs.declared.images.Images.{Images}
 use Rattle.smp_device.specs.declared.images.Replied.{Replied}
 use Rattle.smp_device.specs.declared.images.SideRequest.{SideRequest}
+use Rattle.smp_device.proofs.Falling.{answers_at}
 use Rattle.smp_device.proofs.Lifting.{Lifted, lifted, lifted_lost}
 use Rattle.smp_device.proofs.Parting.{apart_of, is_second}
 
@@ -107,13 +108,6 @@ answer_one images old held o t u respond result a b e f s =
       pending = f.pending;
       caused = f.caused;
     }
-
--- the answer of a side, at the place and with the unit that the device knows
-answers_at : (layout l : Layout) (g : Geometry) (request : SideRequest) (handed : Handed) (b c : FlashState) → layout ≡ l → geometry_of l ≡ g
-    → Answers layout 3 (side_response (geometry_of layout).unit request) handed b c → Answers l 3 (side_response g.unit request) handed b c
-answers_at layout l g request handed b c e f h =
-    subst (λ (x : Geometry). Answers l 3 (side_response x.unit request) handed b c) f
-    (subst (λ (x : Layout). Answers x 3 (side_response (geometry_of x).unit request) handed b c) e h)
 
 pub asked_zero : Laws → (images : Images) (request : SideRequest) (layout : Layout) (handed : Handed) (u : ℕ) (a b c : FlashState) → ArePlaces a.geometry (places_of images) → layout ≡ held_layout images.zero
     → u ≡ moved_target images.target 0 request handed.result → IfSome a.bytes (ImagesSay images)

@@ -1,6 +1,8 @@
 pub mod Parting
 pub mod Lifting
+pub mod Falling
 pub mod Asking
+pub mod Mounting
 pub mod Fields
 pub mod Settlements
 pub mod Listings

@@ -381,7 +381,7 @@ lifted laws g p are unit request i l at t handed a b c f h =
       caused = result_one p i l 5 handed.result a.bytes at both.caused;
     }
 
-caused_more : (l : Layout) (fault : UploadFault) (x : Option (List ℕ)) → Caused l 2 fault x → Caused l 5 fault x
+pub caused_more : (l : Layout) (fault : UploadFault) (x : Option (List ℕ)) → Caused l 2 fault x → Caused l 5 fault x
 caused_more l faults.Unformatted x c = c
 caused_more l faults.Worn None c = tt
 caused_more l faults.Worn (Some u) c = λ take. c (omega arith)

@@ -5,4 +5,5 @@ pub mod Laws
 pub mod Uploads
 pub mod Settling
 pub mod Setting
+pub mod Mounts
 pub mod Goings
