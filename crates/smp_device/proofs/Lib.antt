@@ -1,6 +1,7 @@
 pub mod Parting
 pub mod Lifting
 pub mod Falling
+pub mod Paying
 pub mod Asking
 pub mod Mounting
 pub mod Fields
