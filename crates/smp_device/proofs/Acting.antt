@@ -1,12 +1,14 @@
 -- An act on the side of an image, and the list after it.
-use Rattle.std.proofs.Common.{◌≡◌, ℕ, true, false, Option, Some, None, List, [], ◌∷◌, ◌++◌, Result, Ok, Err, refl, sym, ◌∙◌, ap, subst}
-use Rattle.std.specs.Prelude.{IfSome, OnOk, IfOk}
+use Rattle.std.proofs.Common.{◌≡◌, ℕ, true, false, Option, Some, None, List, [], Result, Ok, Err, refl, sym, ◌∙◌, ap, subst, arith}
+use Rattle.std.specs.Prelude.{IfErr, IfSome, OnOk, IfOk}
 use Rattle.smp_flash.specs.Area.{Told, Keeps}
 use Rattle.smp_flash.specs.Calls.{Calls}
+use Rattle.smp_flash.specs.Layout.{image_of}
 use Rattle.smp_flash.specs.State.{FlashState}
 use Rattle.smp_flash.specs.State.End.{Went}
 use Rattle.smp_flash.specs.declared.geometry.Geometry.{Geometry}
 use Rattle.smp_flash.specs.declared.layout.Layout.{Layout}
+use Rattle.smp_flash.specs.declared.region.Region.{Region}
 use Rattle.smp_flash.proofs.Passing.{Calls-after, Calls-wider}
 use Rattle.smp_model.specs.declared.device.AbstractDevice.{AbstractDevice}
 use Rattle.smp_model.specs.declared.device.Side.{Side}
@@ -16,14 +18,17 @@ use Rattle.smp_model.specs.Response.{Response, SideResponse, responds}
 use Rattle.smp_model.specs.Said.{Said, said_of, if_some}
 use Rattle.smp_model.specs.Sides.{SideStep, side_applied}
 use Rattle.smp_model.specs.Steps.{Step, applied, on_side, side_at, with_side, Part}
+use Rattle.smp_upload.specs.Counting.{CountsSteps}
 use Rattle.smp_upload.specs.Moves.{Moves, Does, Done, mount_spots}
 use Rattle.smp_upload.specs.Bytes.{Apart, SideStands}
 use Rattle.smp_upload.specs.declared.states.UploadFault.{UploadFault}
 use Rattle.smp_upload.proofs.Composing.{shows_stands}
 use Rattle.smp_side.specs.Held.{Answers, held_layout, HeldSays, ResultCaused, Tells, response_of, result_end, steps_by}
 use Rattle.smp_side.specs.declared.held.Handed.{Handed}
-use Rattle.smp_device.specs.Answers.{ImagesAnswer, ImagesReached, ImagesMove, ImagesDo, ImagesTell, ResultCausedIn}
+use Rattle.smp_device.specs.Answers.{ImagesAnswer, ImagesReached, ImagesMove, ImagesDo, ImagesPay, ImagesTell, LostOne, ResultCausedIn}
+use Rattle.smp_device.specs.Goings.{AreCounted}
 use Rattle.smp_device.specs.Laws.{Laws}
+use Rattle.smp_device.specs.Mounts.{held_at}
 use Rattle.smp_device.specs.Places.{Places, ArePlaces, place_at, spots_of, ImagesStand, places_of, ImagesSay}
 use Rattle.smp_device.specs.Setting.{act_steps, acts_of, acts_on, is_empty}
 use Rattle.smp_device.specs.declared.images.Images.{Images}
@@ -36,8 +41,10 @@ use Rattle.smp_side.specs.declared.held.Held.{Held}
 use Rattle.smp_side.specs.declared.held.Held.TheVariants as helds
 use Rattle.smp_device.proofs.Lifting.{side_here, stands_with, steps_target, with_found, with_other, with_target, told_two, caused_one}
 use Rattle.smp_device.proofs.Asking.{one_zero, zero_one}
+use Rattle.smp_device.proofs.Falling.{fell_by, lost_at, lost_behind}
+use Rattle.smp_device.proofs.Paying.{counts_side, image_is, pays_before, pays_side}
 use Rattle.smp_device.proofs.Parting.{apart_of, covers_at, ages_each, pending_each}
-use Rattle.smp_device.proofs.Settlements.{ages_both, pending_both, result_before, reached_behind}
+use Rattle.smp_device.proofs.Settlements.{ages_both, append_none, pending_both, result_before, reached_behind}
 
 -- The response to an act, of a side and of the device.
 
@@ -98,6 +105,14 @@ result_caused : (p : Places) (i : ℕ) (l : Layout) (n : ℕ) (r : Result Reply 
 result_caused p i l n (Ok reply) x at c = tt
 result_caused p i l n (Err fault) x at c = caused_one p i l n fault x at c
 
+act_counts : (act : Act) (i : ℕ) (l : Layout) → image_of l ≡ i → (r : Region) (d : AbstractDevice) (side : Side) → side_at i d ≡ Some side → AreCounted r d (acts_on act i d).steps → CountsSteps l (Some r) side (steps_by (acting act) side)
+act_counts act i l is r d side found c =
+    let here : AreCounted r d (lists_with i (act_steps act side) d).steps = subst (λ (o : Option Side). AreCounted r d (acts_of act i o d).steps) found c in
+    counts_side l i r (acting act side).steps d side is found (subst (λ (s : List Step). AreCounted r d s) (steps_are i (act_steps act side) d) here)
+
+pays_act : (g : Geometry) (p : Places) → ArePlaces g p → (i : ℕ) (l : Layout) → place_at i p ≡ Some l → (t : ℕ) (act : Act) (a b : FlashState) → Done l (mount_spots l) 0 (steps_by (acting act)) a b → ImagesPay p t (acts_on act i) a b
+pays_act g p are i l at t act a b done = pays_side p t i l (λ d. (acts_on act i d).steps) (steps_by (acting act)) a b at (act_counts act i l (image_is g p i l are at)) done.pays
+
 -- The act was refused, or broken off.
 
 abbrev AnswerParts : Places → (n t : ℕ) → (AbstractDevice → Response) → Result Reply UploadFault → FlashState → FlashState → Type 0
@@ -121,11 +136,13 @@ act_refused laws g p are i l at t act reply handed a b is e f = λ images places
       ages = ages_each g p i l 0 a.bytes b.bytes are at f.moved.ages keeps;
       pending = pending_each g p i l a.bytes b.bytes are at f.moved.pending keeps;
       caused = tt;
+      pays = pays_act g p are i l at t act a b done;
+      lost = tt;
     }
 
 pub act_broken : Laws → (g : Geometry) (p : Places) → ArePlaces g p → (i : ℕ) (l : Layout) → place_at i p ≡ Some l → (t : ℕ) (act : Act) (fault : UploadFault) (handed : Handed) (a b : FlashState)
-    → handed.result ≡ Err fault → Answers l 0 (acting act) handed a b → AnswerParts p 0 t (acts_on act i) (Err fault) a b
-act_broken laws g p are i l at t act fault handed a b is f = λ images places target says.
+    → handed.result ≡ Err fault → Answers l 0 (acting act) handed a b → (images : Images) → held_at i images ≡ Some handed.held → places_of images ≡ p → images.target ≡ t → IfSome b.bytes (ImagesSay images) → ImagesAnswer p 0 t (acts_on act i) images (Err fault) a b
+act_broken laws g p are i l at t act fault handed a b is f = λ images held places target says.
     let keeps = f.moved.calls.keeps in
     record {
       calls = subst (λ (r : Result Reply UploadFault). Calls (spots_of p) (result_end r) a b) is (Calls-wider (spots_of p) (mount_spots l) (result_end handed.result) a b (covers_at p i l at) f.moved.calls);
@@ -138,13 +155,12 @@ act_broken laws g p are i l at t act fault handed a b is f = λ images places ta
       ages = ages_each g p i l 0 a.bytes b.bytes are at f.moved.ages keeps;
       pending = pending_each g p i l a.bytes b.bytes are at f.moved.pending keeps;
       caused = result_caused p i l 0 (Err fault) a.bytes at (subst (λ (r : Result Reply UploadFault). ResultCaused l 0 r a.bytes) is f.caused);
+      pays = tt;
+      lost = subst (λ (r : Result Reply UploadFault). IfErr r (λ fault. LostOne p 0 images fault a b)) is
+          (lost_at p 0 i images handed.held handed.result a b held f.mounted (fell_by p 0 i l handed.result a b at f.moved.calls f.caused));
     }
 
 -- It was done, and the list was read.
-
-append_none : (s : List Step) → s ++ [] ≡ s
-append_none [] = refl
-append_none (x ∷ s) = ap (λ (r : List Step). x ∷ r) (append_none s)
 
 -- what the list answers behind the steps of the act is what the act answers
 listed : (act : Act) (i : ℕ) (d : AbstractDevice) (side : Side) (s : Said) → side_at i d ≡ Some side → s ≡ (acting act side).reply → is_empty s ≡ true
@@ -205,6 +221,10 @@ list_done laws g p are i l at t u act reply (Ok next) x y z e told does keeps li
     (λ o m n tells d k list2. list_does laws g p are i l at t u act reply o m n e tells d k list2) told does keeps list
 list_done laws g p are i l at t u act reply (Err fault) x y z e told does keeps list = tt
 
+acted_pays : (p : Places) (t : ℕ) (act : Act) (i : ℕ) (r : Result Reply UploadFault) (a b c : FlashState) → ImagesPay p t (acts_on act i) a b → Calls (spots_of p) (result_end r) b c → OnOk r (ImagesPay p t (acts_on act i) a c)
+acted_pays p t act i (Ok next) a b c f calls = pays_before p t (λ d. (acts_on act i d).steps) a b c calls.passes f
+acted_pays p t act i (Err fault) a b c f calls = tt
+
 pub act_listed : Laws → (g : Geometry) (p : Places) → ArePlaces g p → (i : ℕ) (l : Layout) → place_at i p ≡ Some l → (t : ℕ) (act : Act) (reply : Reply) (handed : Handed) (images : Images) (r : Result Reply UploadFault) (a b c : FlashState)
     → handed.result ≡ Ok reply → is_empty (said_of reply) ≡ true → Answers l 0 (acting act) handed a b → ImagesAnswer p 0 t (lists_after []) images r b c → ImagesAnswer p 0 t (acts_on act i) images r a c
 act_listed laws g p are i l at t act reply handed images r a b c is e f list =
@@ -223,6 +243,8 @@ act_listed laws g p are i l at t act reply handed images r a b c is e f list =
       ages = ages_both 0 0 p a.bytes b.bytes c.bytes ages list.ages;
       pending = pending_both p a.bytes b.bytes c.bytes (pending_each g p i l a.bytes b.bytes are at f.moved.pending keeps) list.pending;
       caused = result_before p 0 0 r a.bytes b.bytes ages list.caused;
+      pays = acted_pays p t act i r a b c (pays_act g p are i l at t act a b done) list.calls;
+      lost = lost_behind p 0 0 0 images r a b c (omega arith) done.calls.passes ages list.lost;
     }
 
 -- the answer to an act, as it is known to be
@@ -252,7 +274,7 @@ pub alone_broken : Laws → (m : Mounted) (t : ℕ) (act : Act) (fault : UploadF
     → ImagesAnswer (alone_places m) 0 t (acts_on act 0) (record { zero = handed.held; one = None; target = t }) (Err fault) a b
 alone_broken laws m t act fault handed a b are is f =
     let l = (known_mounted m).layout in
-    act_broken laws a.geometry (alone_places m) are 0 l refl t act fault handed a b is f (record { zero = handed.held; one = None; target = t })
+    act_broken laws a.geometry (alone_places m) are 0 l refl t act fault handed a b is f (record { zero = handed.held; one = None; target = t }) refl
     (unknown_first handed l None f.layout_kept) refl
     (both_some (HeldSays handed.held) (HeldSays handed.held) (ImagesSay (record { zero = handed.held; one = None; target = t })) b.bytes (λ u s s2. record { first = s; second = tt }) f.says f.says)
 
@@ -314,7 +336,7 @@ pub zero_broken : Laws → (m n : Mounted) (t : ℕ) (act : Act) (fault : Upload
 zero_broken laws m n t act fault handed images a b are says is eq f =
     let known : Images = record { zero = handed.held; one = Some (helds.Mounted n); target = t } in
     as_images (both_places m n) 0 t (acts_on act 0) images known (Err fault) a b eq
-    (act_broken laws a.geometry (both_places m n) are 0 (known_mounted m).layout refl t act fault handed a b is f known (zero_images m n t handed f.layout_kept) refl
+    (act_broken laws a.geometry (both_places m n) are 0 (known_mounted m).layout refl t act fault handed a b is f known refl (zero_images m n t handed f.layout_kept) refl
     (both_some (HeldSays handed.held) (Says (known_mounted n)) (ImagesSay known) b.bytes (λ u p q. record { first = p; second = q }) f.says (second_kept laws m n t act handed a b are says f)))
 
 pub one_refused : Laws → (m n : Mounted) (t : ℕ) (act : Act) (reply : Reply) (handed : Handed) (images : Images) (a b : FlashState) → ArePlaces a.geometry (both_places m n) → IfSome a.bytes (SettledSay (both_settled m n t)) → handed.result ≡ Ok reply → is_empty (said_of reply) ≡ false
@@ -330,7 +352,7 @@ pub one_broken : Laws → (m n : Mounted) (t : ℕ) (act : Act) (fault : UploadF
 one_broken laws m n t act fault handed images a b are says is eq f =
     let known : Images = record { zero = helds.Mounted m; one = Some handed.held; target = t } in
     as_images (both_places m n) 0 t (acts_on act 1) images known (Err fault) a b eq
-    (act_broken laws a.geometry (both_places m n) are 1 (known_mounted n).layout refl t act fault handed a b is f known (one_images m n t handed f.layout_kept) refl
+    (act_broken laws a.geometry (both_places m n) are 1 (known_mounted n).layout refl t act fault handed a b is f known refl (one_images m n t handed f.layout_kept) refl
     (both_some (HeldSays handed.held) (Says (known_mounted m)) (ImagesSay known) b.bytes (λ u p q. record { first = q; second = p }) f.says (first_kept laws m n t act handed a b are says f)))
 
 held_as : (handed : Handed) (k : Mounted) (bytes : List ℕ) → handed.held ≡ helds.Mounted k → HeldSays handed.held bytes → Says (known_mounted k) bytes

@@ -1,6 +1,6 @@
 -- The images after a request about one of them.
 use Rattle.std.proofs.Common.{◌≡◌, ℕ, zero, suc, ◌≤◌, false, Option, Some, None, List, [], Result, Ok, refl, sym, ◌∙◌, ap, subst, arith}
-use Rattle.std.specs.Prelude.{IfSome, option_map}
+use Rattle.std.specs.Prelude.{IfErr, IfSome, OnOk, option_map}
 use Rattle.smp_flash.specs.Area.{Told, Keeps}
 use Rattle.smp_flash.specs.Layout.{geometry_of, progress_of}
 use Rattle.smp_flash.specs.State.{FlashState}
@@ -23,18 +23,21 @@ use Rattle.smp_upload.specs.Moves.{Moved, Done, KeepsPending, mount_spots}
 use Rattle.smp_upload.specs.States.{known_mounted}
 use Rattle.smp_upload.specs.declared.states.Lost.{Lost}
 use Rattle.smp_upload.specs.declared.states.UploadFault.{UploadFault}
-use Rattle.smp_side.specs.Held.{Answers, Broken, Caused, held_layout, HeldSays, is_mounted}
+use Rattle.smp_side.specs.Held.{Answers, Broken, Caused, held_layout, HeldSays, is_mounted, is_ok}
 use Rattle.smp_side.specs.declared.held.Held.{Held}
 use Rattle.smp_side.specs.declared.held.Held.TheVariants as helds
 use Rattle.smp_side.specs.declared.held.Handed.{Handed}
 use Rattle.smp_side.proofs.Answering.{answers_after, readable_of, readable_after, answers_more}
-use Rattle.smp_device.specs.Answers.{ImagesAnswer, ImagesMove, ImagesDo}
+use Rattle.smp_device.specs.Answers.{ImagesAnswer, ImagesMove, ImagesDo, ImagesPay}
 use Rattle.smp_device.specs.Laws.{Laws}
+use Rattle.smp_device.specs.Mounts.{FellIn}
 use Rattle.smp_device.specs.Places.{Places, ArePlaces, place_at, spots_of, StandsAt, ImagesStand, places_of, ImagesSay}
 use Rattle.smp_device.specs.Requests.{side_response, responds_of, responds_on, moved_target}
 use Rattle.smp_device.specs.declared.images.Images.{Images}
 use Rattle.smp_device.specs.declared.images.Replied.{Replied}
 use Rattle.smp_device.specs.declared.images.SideRequest.{SideRequest}
+use Rattle.smp_device.proofs.Falling.{answers_at, fell_by, fell_lost_zero, fell_lost_one, lost_at}
+use Rattle.smp_device.proofs.Paying.{pays_asked, pays_failed, pays_none}
 use Rattle.smp_device.proofs.Lifting.{Lifted, lifted, lifted_lost}
 use Rattle.smp_device.proofs.Parting.{apart_of, is_second}
 
@@ -77,9 +80,10 @@ one_says laws g images are old held e t (Some u) (Some v) h s k = record {
 -- Together with what was lifted.
 
 answer_zero : (images : Images) (held : Held) (t u : ℕ) (respond : AbstractDevice → Response) (result : Result Reply UploadFault) (a b : FlashState) → held_layout held ≡ held_layout images.zero
+    → is_mounted held ≡ is_ok result → OnOk result (ImagesPay (places_of images) t respond a b) → IfErr result (λ fault. FellIn (places_of images) 5 0 fault a b)
     → Lifted (places_of images) 5 t respond u result a b → IfSome b.bytes (ImagesSay (record { zero = held; one = images.one; target = u }))
     → ImagesAnswer (places_of images) 5 t respond (record { zero = held; one = images.one; target = u }) result a b
-answer_zero images held t u respond result a b e f s = record {
+answer_zero images held t u respond result a b e m pays fell f s = record {
   calls = f.calls;
   moves = f.moves;
   done = f.done;
@@ -89,12 +93,15 @@ answer_zero images held t u respond result a b e f s = record {
   ages = f.ages;
   pending = f.pending;
   caused = f.caused;
+  pays = pays;
+  lost = lost_at (places_of images) 5 0 (record { zero = held; one = images.one; target = u }) held result a b refl m fell;
 }
 
 answer_one : (images : Images) (old held : Held) → images.one ≡ Some old → (t u : ℕ) (respond : AbstractDevice → Response) (result : Result Reply UploadFault) (a b : FlashState) → held_layout held ≡ held_layout old
+    → is_mounted held ≡ is_ok result → OnOk result (ImagesPay (places_of images) t respond a b) → IfErr result (λ fault. FellIn (places_of images) 5 1 fault a b)
     → Lifted (places_of images) 5 t respond u result a b → IfSome b.bytes (ImagesSay (record { zero = images.zero; one = Some held; target = u }))
     → ImagesAnswer (places_of images) 5 t respond (record { zero = images.zero; one = Some held; target = u }) result a b
-answer_one images old held o t u respond result a b e f s =
+answer_one images old held o t u respond result a b e m pays fell f s =
     let same : option_map held_layout (Some held) ≡ option_map held_layout images.one = ap Some e ∙ sym (ap (option_map held_layout) o) in
     record {
       calls = f.calls;
@@ -106,14 +113,9 @@ answer_one images old held o t u respond result a b e f s =
       ages = f.ages;
       pending = f.pending;
       caused = f.caused;
+      pays = pays;
+      lost = lost_at (places_of images) 5 1 (record { zero = images.zero; one = Some held; target = u }) held result a b refl m fell;
     }
-
--- the answer of a side, at the place and with the unit that the device knows
-answers_at : (layout l : Layout) (g : Geometry) (request : SideRequest) (handed : Handed) (b c : FlashState) → layout ≡ l → geometry_of l ≡ g
-    → Answers layout 3 (side_response (geometry_of layout).unit request) handed b c → Answers l 3 (side_response g.unit request) handed b c
-answers_at layout l g request handed b c e f h =
-    subst (λ (x : Geometry). Answers l 3 (side_response x.unit request) handed b c) f
-    (subst (λ (x : Layout). Answers x 3 (side_response (geometry_of x).unit request) handed b c) e h)
 
 pub asked_zero : Laws → (images : Images) (request : SideRequest) (layout : Layout) (handed : Handed) (u : ℕ) (a b c : FlashState) → ArePlaces a.geometry (places_of images) → layout ≡ held_layout images.zero
     → u ≡ moved_target images.target 0 request handed.result → IfSome a.bytes (ImagesSay images)
@@ -126,7 +128,9 @@ asked_zero laws images request layout handed u a b c are e target says done answ
     let both = answers_after l 2 3 side_settle_steps (side_response a.geometry.unit request) handed a b c done h in
     let up = lifted laws a.geometry (places_of images) are a.geometry.unit request 0 l refl images.target handed a b c done h in
     subst (λ (k : ℕ). ImagesAnswer (places_of images) 5 images.target (responds_on a.geometry.unit request 0) (record { zero = handed.held; one = images.one; target = k }) handed.result a c) (sym target)
-    (answer_zero images handed.held images.target t (responds_on a.geometry.unit request 0) handed.result a c both.layout_kept up
+    (answer_zero images handed.held images.target t (responds_on a.geometry.unit request 0) handed.result a c both.layout_kept both.mounted
+    (pays_asked laws a.geometry (places_of images) are a.geometry.unit request 0 l refl images.target handed.result a c both.done)
+    (fell_by (places_of images) 5 0 l handed.result a c refl both.moved.calls both.caused) up
     (zero_says laws a.geometry images are handed.held t a.bytes c.bytes both.says says both.moved.calls.keeps))
 
 pub asked_one : Laws → (images : Images) (old : Held) → images.one ≡ Some old → (request : SideRequest) (layout : Layout) (handed : Handed) (u : ℕ) (a b c : FlashState) → ArePlaces a.geometry (places_of images) → layout ≡ held_layout old
@@ -142,7 +146,9 @@ asked_one laws images old o request layout handed u a b c are e target says done
     let both = answers_after l 2 3 side_settle_steps (side_response a.geometry.unit request) handed a b c done h in
     let up = lifted laws a.geometry (places_of images) are a.geometry.unit request 1 l at images.target handed a b c done h in
     subst (λ (k : ℕ). ImagesAnswer (places_of images) 5 images.target (responds_on a.geometry.unit request 1) (record { zero = images.zero; one = Some handed.held; target = k }) handed.result a c) (sym target)
-    (answer_one images old handed.held o images.target t (responds_on a.geometry.unit request 1) handed.result a c both.layout_kept up
+    (answer_one images old handed.held o images.target t (responds_on a.geometry.unit request 1) handed.result a c both.layout_kept both.mounted
+    (pays_asked laws a.geometry (places_of images) are a.geometry.unit request 1 l at images.target handed.result a c both.done)
+    (fell_by (places_of images) 5 1 l handed.result a c at both.moved.calls both.caused) up
     (one_says laws a.geometry images are old handed.held o t a.bytes c.bytes both.says says both.moved.calls.keeps))
 
 -- A mount that was lost.
@@ -177,7 +183,8 @@ pub lost_zero : Laws → (images : Images) (request : SideRequest) (lost : Lost)
 lost_zero laws images request lost handed a b are e says broken m c =
     let l = held_layout images.zero in
     let kept : held_layout handed.held ≡ l = broken.layout_kept ∙ e in
-    answer_zero images handed.held images.target images.target (responds_on a.geometry.unit request 0) handed.result a b kept
+    answer_zero images handed.held images.target images.target (responds_on a.geometry.unit request 0) handed.result a b kept (broken.unmounted ∙ sym (ap is_ok broken.failed)) (pays_failed (ImagesPay (places_of images) images.target (responds_on a.geometry.unit request 0) a b) lost.fault handed.result broken.failed)
+    (fell_lost_zero images lost handed a b broken m c)
     (lifted_lost laws a.geometry (places_of images) are a.geometry.unit request 0 l refl images.target lost.fault handed.result a b broken.failed m c)
     (zero_says laws a.geometry images are handed.held images.target a.bytes b.bytes (lost_says images.zero handed.held lost.fault a b kept broken.unmounted m (first_says images a.bytes says)) says m.calls.keeps)
 
@@ -188,7 +195,8 @@ pub lost_one : Laws → (images : Images) (old : Held) → images.one ≡ Some o
 lost_one laws images old o request lost handed a b are e says broken m c =
     let l = held_layout old in
     let kept : held_layout handed.held ≡ l = broken.layout_kept ∙ e in
-    answer_one images old handed.held o images.target images.target (responds_on a.geometry.unit request 1) handed.result a b kept
+    answer_one images old handed.held o images.target images.target (responds_on a.geometry.unit request 1) handed.result a b kept (broken.unmounted ∙ sym (ap is_ok broken.failed)) (pays_failed (ImagesPay (places_of images) images.target (responds_on a.geometry.unit request 1) a b) lost.fault handed.result broken.failed)
+    (fell_lost_one images old o lost handed a b broken m c)
     (lifted_lost laws a.geometry (places_of images) are a.geometry.unit request 1 l (ap (option_map held_layout) o) images.target lost.fault handed.result a b broken.failed m c)
     (one_says laws a.geometry images are old handed.held o images.target a.bytes b.bytes (lost_says old handed.held lost.fault a b kept broken.unmounted m (second_says images old a.bytes o says)) says m.calls.keeps)
 
@@ -230,6 +238,8 @@ none_here images unit request i a e says =
       ages = λ j l at. told_here (AgesAtMost 5 (progress_of l)) a.bytes (λ u. record { kept = omega arith; most = omega arith });
       pending = λ j l at. told_here (KeepsPending l) a.bytes (λ u. record { kept = λ is. refl; still = λ is. refl });
       caused = tt;
+      pays = pays_none p t (λ d. (responds_on unit request i d).steps) a a (told_alone (λ u. (d : AbstractDevice) → ImagesStand p t d u → (responds_on unit request i d).steps ≡ []) a.bytes (λ u d stands. ap (λ (r : Response). r.steps) (none_responds unit request i t p d u e stands)));
+      lost = tt;
     }
 
 pub no_image_here : (images : Images) (unit : ℕ) (request : SideRequest) (i : ℕ) (replied_with : Replied) (a : FlashState) → place_at i (places_of images) ≡ None → IfSome a.bytes (ImagesSay images)

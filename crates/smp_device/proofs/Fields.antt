@@ -28,7 +28,7 @@ use Rattle.smp_model.specs.Steps.{applied, side_at, Part}
 use Rattle.smp_model.specs.Uploads.{is_spoiled}
 use Rattle.smp_upload.specs.Moves.{KeepsPending}
 use Rattle.smp_upload.specs.declared.states.UploadFault.{UploadFault}
-use Rattle.smp_device.specs.Answers.{ImagesAnswer, ImagesMove, ImagesDo, ImagesTell}
+use Rattle.smp_device.specs.Answers.{ImagesAnswer, ImagesMove, ImagesDo, ImagesPay, ImagesTell}
 use Rattle.smp_device.specs.Places.{Places, place_at, spots_of, ImagesStand, places_of, ImagesSay}
 use Rattle.smp_device.specs.Requests.{responds_of, responds_on}
 use Rattle.smp_device.specs.Uploads.{sizes_of, start_fault, Announces}
@@ -38,6 +38,7 @@ use Rattle.smp_device.specs.declared.images.SideRequest.{SideRequest}
 use Rattle.smp_device.specs.declared.images.SideRequest.TheVariants as asks
 use Rattle.smp_device.proofs.Asking.{told_here, told_alone, no_side}
 use Rattle.smp_device.proofs.Lifting.{side_here}
+use Rattle.smp_device.proofs.Paying.{ok_map, pays_same}
 
 -- The same response, of the devices that the bytes stand for.
 
@@ -84,6 +85,9 @@ images_as p n t first other images r a b same f = record {
   ages = f.ages;
   pending = f.pending;
   caused = f.caused;
+  pays = ok_map (ImagesPay p t first a b) (ImagesPay p t other a b) r
+      (pays_same p t (λ d. (first d).steps) (λ d. (other d).steps) a b (told_alone (λ u. (d : AbstractDevice) → ImagesStand p t d u → (first d).steps ≡ (other d).steps) a.bytes (λ u d stands. ap (λ (x : Response). x.steps) (same d u stands)))) f.pays;
+  lost = f.lost;
 }
 
 -- answered at once, and nothing changes
@@ -102,6 +106,8 @@ plain_here images n respond reply a same says =
       ages = λ j l at. told_here (AgesAtMost n (progress_of l)) a.bytes (λ u. record { kept = omega arith; most = omega arith });
       pending = λ j l at. told_here (KeepsPending l) a.bytes (λ u. record { kept = λ is. refl; still = λ is. refl });
       caused = tt;
+      pays = λ region d aim stands counted. absurd counted;
+      lost = tt;
     })
 
 pub refused_here : (images : Images) (n number : ℕ) (respond : AbstractDevice → Response) (r : Replied) (a : FlashState) → SameFor (places_of images) images.target respond (λ d. refuses_image number)

@@ -30,7 +30,7 @@ use Rattle.smp_upload.proofs.Sides.{OneSide, says_knows}
 use Rattle.smp_side.specs.Held.{held_layout, result_end}
 use Rattle.smp_side.specs.declared.held.Held.{Held}
 use Rattle.smp_side.specs.declared.held.Held.TheVariants as helds
-use Rattle.smp_device.specs.Answers.{ImagesAnswer, ImagesMove, ImagesDo, ImagesTell, ResultCausedIn}
+use Rattle.smp_device.specs.Answers.{ImagesAnswer, ImagesMove, ImagesDo, ImagesPay, ImagesTell, ResultCausedIn}
 use Rattle.smp_device.specs.Places.{Places, place_at, spots_of, ImagesStand, ImagesSay}
 use Rattle.smp_device.specs.Setting.{RunsIs, acts_of, acts_on}
 use Rattle.smp_device.specs.Settling.{SettledSay, alone_places, alone_settled, both_places, both_settled, unknown_at}
@@ -40,8 +40,14 @@ use Rattle.smp_device.specs.declared.sets.Act.{Act}
 use Rattle.smp_device.specs.declared.sets.Act.TheVariants as acts
 use Rattle.smp_device.proofs.Asking.{no_side}
 use Rattle.smp_device.proofs.Fields.{SameFor}
+use Rattle.smp_device.proofs.Falling.{lost_read}
 use Rattle.smp_device.proofs.Lifting.{side_here}
-use Rattle.smp_device.proofs.Listings.{calls_at, quiet, quiet_broken, unknown_is, unknown_says}
+use Rattle.smp_device.proofs.Paying.{ok_map, pays_behind, pays_same}
+use Rattle.smp_device.proofs.Listings.{calls_at, quiet, quiet_broken, read_fell, read_fell_then, unknown_is, unknown_says, unknown_unmounted}
+
+some_map : (P Q : List ℕ → Type 0) (x : Option (List ℕ)) → ((u : List ℕ) → P u → Q u) → IfSome x P → IfSome x Q
+some_map P Q None f p = tt
+some_map P Q (Some u) f p = f u p
 
 -- Behind a read that changed no byte.
 
@@ -57,6 +63,8 @@ read_then p n t respond images r a b c calls kept f = record {
   ages = λ i l at. subst (λ (x : Option (List ℕ)). Told (AgesAtMost n (progress_of l)) x c.bytes) kept (f.ages i l at);
   pending = λ i l at. subst (λ (x : Option (List ℕ)). Told (KeepsPending l) x c.bytes) kept (f.pending i l at);
   caused = subst (λ (x : Option (List ℕ)). ResultCausedIn p n r x) kept f.caused;
+  pays = ok_map (ImagesPay p t respond b c) (ImagesPay p t respond a c) r (pays_behind p t (λ d. (respond d).steps) a b c calls.passes kept) f.pays;
+  lost = lost_read p n images r a b c calls.passes kept f.lost;
 }
 
 -- The same response, of the devices that these bytes stand for.
@@ -93,6 +101,9 @@ images_here p n t first other images r a b same f = record {
   ages = f.ages;
   pending = f.pending;
   caused = f.caused;
+  pays = ok_map (ImagesPay p t first a b) (ImagesPay p t other a b) r
+      (pays_same p t (λ d. (first d).steps) (λ d. (other d).steps) a b (some_map (SameHere p t first other) (λ u. (d : AbstractDevice) → ImagesStand p t d u → (first d).steps ≡ (other d).steps) a.bytes (λ u e d stands. ap (λ (x : Response). x.steps) (e d stands)) same)) f.pays;
+  lost = f.lost;
 }
 
 -- What a hash means, by what is found of each image.
@@ -159,10 +170,6 @@ hash_image hash (Some i) b e f = refl
 
 -- Of a device of one image.
 
-some_map : (P Q : List ℕ → Type 0) (x : Option (List ℕ)) → ((u : List ℕ) → P u → Q u) → IfSome x P → IfSome x Q
-some_map P Q None f p = tt
-some_map P Q (Some u) f p = f u p
-
 some_two : (P Q R : List ℕ → Type 0) (x : Option (List ℕ)) → ((u : List ℕ) → P u → Q u → R u) → IfSome x P → IfSome x Q → IfSome x R
 some_two P Q R None f p q = tt
 some_two P Q R (Some u) f p q = f u p q
@@ -174,7 +181,7 @@ alone_failed m t l held respond fault u a b says calls kept e f is =
     let p = alone_places m in
     let images : Images = record { zero = held; one = None; target = t } in
     let un = unknown_is m l held e f in
-    quiet_broken p 0 t respond images fault u a b (λ i. record { first = held_layout (un i); second = None }) refl is (calls_at p 0 p.first (fault_end fault) a b refl calls) kept
+    quiet_broken p 0 t respond images 0 fault u a b (λ i. record { first = held_layout (un i); second = None }) refl is (unknown_unmounted (known_mounted m).layout held un) (read_fell p 0 0 p.first fault a b refl calls) (calls_at p 0 p.first (fault_end fault) a b refl calls) kept
     (some_map (SettledSay (alone_settled m t)) (ImagesSay images) a.bytes (λ v s. record { first = unknown_says m held v un s.first; second = tt }) says)
 
 -- an act behind the read, where it is what the hash means
@@ -295,7 +302,7 @@ both_failed_0 m n t l held images r respond fault a b says calls kept e f g h =
     let known : Images = record { zero = held; one = Some (helds.Mounted n); target = t } in
     let un = unknown_is m l held e f in
     as_replied p t respond r images known (Err (of_call fault)) a b h g
-    (quiet_broken p 0 t respond known fault (of_call fault) a b (λ i. record { first = held_layout (un i); second = Some (known_mounted n).layout }) refl refl (calls_at p 0 p.first (fault_end fault) a b refl calls) kept
+    (quiet_broken p 0 t respond known 0 fault (of_call fault) a b (λ i. record { first = held_layout (un i); second = Some (known_mounted n).layout }) refl refl (unknown_unmounted (known_mounted m).layout held un) (read_fell p 0 0 p.first fault a b refl calls) (calls_at p 0 p.first (fault_end fault) a b refl calls) kept
     (some_map (SettledSay (both_settled m n t)) (ImagesSay known) a.bytes (λ v s. record { first = unknown_says m held v un s.first; second = s.second }) says))
 
 pub both_failed_1 : (m n : Mounted) (t : ℕ) (l : Layout) (held : Held) (images : Images) (r : Replied) (respond : AbstractDevice → Response) (fault : CallFault) (a b c : FlashState) → IfSome a.bytes (SettledSay (both_settled m n t))
@@ -306,7 +313,8 @@ both_failed_1 m n t l held images r respond fault a b c says calls kept more sti
     let known : Images = record { zero = helds.Mounted m; one = Some held; target = t } in
     let un = unknown_is n l held e f in
     as_replied p t respond r images known (Err (of_call fault)) a c h g
-    (quiet_broken p 0 t respond known fault (of_call fault) a c (λ i. record { first = (known_mounted m).layout; second = Some (held_layout (un i)) }) refl refl
+    (quiet_broken p 0 t respond known 1 fault (of_call fault) a c (λ i. record { first = (known_mounted m).layout; second = Some (held_layout (un i)) }) refl refl (unknown_unmounted (known_mounted n).layout held un)
+    (read_fell_then p 0 1 (known_mounted n).layout fault a b c refl (calls_at p 0 p.first Went a b refl calls) kept more)
     (Calls-after (spots_of p) (fault_end fault) a b c (calls_at p 0 p.first Went a b refl calls) (calls_at p 1 (known_mounted n).layout (fault_end fault) b c refl more)) (still ∙ kept)
     (some_map (SettledSay (both_settled m n t)) (ImagesSay known) a.bytes (λ v s. record { first = s.first; second = unknown_says n held v un s.second }) says))
 

@@ -1,6 +1,9 @@
 pub mod Parting
 pub mod Lifting
+pub mod Falling
+pub mod Paying
 pub mod Asking
+pub mod Mounting
 pub mod Fields
 pub mod Settlements
 pub mod Listings

@@ -1,5 +1,5 @@
 -- What one image's calls do, the device does.
-use Rattle.std.proofs.Common.{◌≡◌, ◌⊎◌, inl, inr, ℕ, zero, suc, ◌+◌, Bool, true, false, Option, Some, None, List, [], ◌∷◌, ◌++◌, length, ◌==◌, nat_lt, Result, Ok, Err, refl, sym, ◌∙◌, ap, subst, arith, if◌then◌else◌}
+use Rattle.std.proofs.Common.{◌≡◌, ◌⊎◌, inl, inr, ℕ, zero, suc, ◌+◌, ◌≤◌, Bool, true, false, Option, Some, None, List, [], ◌∷◌, ◌++◌, length, ◌==◌, nat_lt, Result, Ok, Err, refl, sym, ◌∙◌, ap, subst, arith, if◌then◌else◌}
 use Rattle.std.specs.Prelude.{IfSome, OnOk, IfOk, option_map}
 use Rattle.smp_flash.specs.Area.{Told, Keeps}
 use Rattle.smp_flash.specs.Calls.{Calls}
@@ -9,7 +9,8 @@ use Rattle.smp_flash.specs.declared.geometry.Geometry.{Geometry}
 use Rattle.smp_flash.specs.declared.layout.Layout.{Layout}
 use Rattle.smp_flash.proofs.Passing.{Calls-wider}
 use Rattle.smp_flash.proofs.Telling.{Told-map}
-use Rattle.smp_gate.specs.Newest.{AgesAtMost}
+use Rattle.smp_gate.specs.Newest.{AgesAtMost, newest_generation}
+use Rattle.smp_progress.specs.State.{CanTake}
 use Rattle.smp_model.specs.declared.device.AbstractDevice.{AbstractDevice}
 use Rattle.smp_model.specs.declared.device.Side.{Side}
 use Rattle.smp_model.specs.declared.device.Upload.{Upload}
@@ -107,7 +108,7 @@ aimed_side i (suc zero) d true = refl
 aimed_side i (suc (suc j)) d true = refl
 aimed_side i j d false = refl
 
-between_side : (request : SideRequest) (i j : ℕ) (s : Said) (d : AbstractDevice) → side_at j (applied (between request i s) d) ≡ side_at j d
+pub between_side : (request : SideRequest) (i j : ℕ) (s : Said) (d : AbstractDevice) → side_at j (applied (between request i s) d) ≡ side_at j d
 between_side (asks.Start a bytes) i j s d = aimed_side i j d (is_offset s)
 between_side (asks.Part off tag bytes) i j s d = refl
 between_side asks.Erase i j s d = refl
@@ -381,12 +382,15 @@ lifted laws g p are unit request i l at t handed a b c f h =
       caused = result_one p i l 5 handed.result a.bytes at both.caused;
     }
 
-caused_more : (l : Layout) (fault : UploadFault) (x : Option (List ℕ)) → Caused l 2 fault x → Caused l 5 fault x
-caused_more l faults.Unformatted x c = c
-caused_more l faults.Worn None c = tt
-caused_more l faults.Worn (Some u) c = λ take. c (omega arith)
-caused_more l (faults.Fault operation) x c = tt
-caused_more l faults.Off x c = tt
+pub worn_more : (l : Layout) (m n : ℕ) (x : Option (List ℕ)) → m ≤ n → IfSome x (λ held. CanTake (newest_generation (progress_of l) held) m → ⊥) → IfSome x (λ held. CanTake (newest_generation (progress_of l) held) n → ⊥)
+worn_more l m n None le w = tt
+worn_more l m n (Some u) le w = λ take. w (omega arith)
+
+pub caused_more : (l : Layout) (m n : ℕ) (fault : UploadFault) (x : Option (List ℕ)) → m ≤ n → Caused l m fault x → Caused l n fault x
+caused_more l m n faults.Unformatted x le c = c
+caused_more l m n faults.Worn x le c = worn_more l m n x le c
+caused_more l m n (faults.Fault operation) x le c = tt
+caused_more l m n faults.Off x le c = tt
 
 lifted_lost_at : Laws → (g : Geometry) (p : Places) → ArePlaces g p → (unit : ℕ) (request : SideRequest) (i : ℕ) (l : Layout) → place_at i p ≡ Some l → (t : ℕ) (fault : UploadFault) (a b : FlashState)
     → Moved l (mount_spots l) 2 side_settle_steps (upload_fault_end fault) a b → Caused l 2 fault a.bytes → Lifted p 5 t (responds_on unit request i) t (Err fault) a b
@@ -399,7 +403,7 @@ lifted_lost_at laws g p are unit request i l at t fault a b m c =
       said = tt;
       ages = ages_each g p i l 5 a.bytes b.bytes are at (Told-map (AgesAtMost 2 (progress_of l)) (AgesAtMost 5 (progress_of l)) a.bytes b.bytes (λ u v. ages_more l 2 5 u v (omega arith)) m.ages) keeps;
       pending = pending_each g p i l a.bytes b.bytes are at m.pending keeps;
-      caused = caused_one p i l 5 fault a.bytes at (caused_more l fault a.bytes c);
+      caused = caused_one p i l 5 fault a.bytes at (caused_more l 2 5 fault a.bytes (omega arith) c);
     }
 
 -- a mount that was lost

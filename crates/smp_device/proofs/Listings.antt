@@ -1,5 +1,5 @@
 -- The list of images, and the mounting of all as the code goes about it.
-use Rattle.std.proofs.Common.{◌≡◌, ◌≤◌, ℕ, Option, Some, None, List, [], ◌∷◌, Ok, Err, refl, sym, ◌∙◌, ap, subst, arith}
+use Rattle.std.proofs.Common.{◌≡◌, ◌≤◌, ℕ, false, Option, Some, None, List, [], ◌∷◌, Ok, Err, refl, sym, ◌∙◌, ap, subst, arith}
 use Rattle.std.specs.Prelude.{IfSome, option_map}
 use Rattle.smp_flash.specs.Area.{Told, Keeps}
 use Rattle.smp_flash.specs.Calls.{Calls}
@@ -11,6 +11,7 @@ use Rattle.smp_flash.specs.declared.flash.CallFault.TheVariants as callfaults
 use Rattle.smp_flash.specs.declared.geometry.Geometry.{Geometry}
 use Rattle.smp_flash.specs.declared.layout.Layout.{Layout}
 use Rattle.smp_flash.proofs.Passing.{Calls-after, Calls-wider}
+use Rattle.smp_flash.proofs.Telling.{IfSome-map}
 use Rattle.smp_gate.specs.Newest.{AgesAtMost}
 use Rattle.smp_model.specs.declared.device.AbstractDevice.{AbstractDevice}
 use Rattle.smp_model.specs.declared.reply.Reply.{Reply}
@@ -29,20 +30,23 @@ use Rattle.smp_upload.specs.States.{Says, known_mounted}
 use Rattle.smp_upload.specs.declared.states.Lost.{Lost}
 use Rattle.smp_upload.specs.declared.states.Mounted.{Mounted}
 use Rattle.smp_upload.specs.declared.states.UploadFault.{UploadFault}
-use Rattle.smp_side.specs.Held.{Broken, Caused, held_layout, HeldSays}
+use Rattle.smp_side.specs.Held.{Broken, Caused, held_layout, HeldSays, is_mounted}
 use Rattle.smp_side.specs.Listing.{IsPair}
 use Rattle.smp_side.specs.declared.held.Held.{Held}
 use Rattle.smp_side.specs.declared.held.Held.TheVariants as helds
 use Rattle.smp_side.specs.declared.held.Handed.{Handed}
-use Rattle.smp_side.proofs.Answering.{readable_of, slot_end}
+use Rattle.smp_side.proofs.Answering.{readable_of, slot_caused, slot_end}
 use Rattle.smp_device.specs.Answers.{ImagesAnswer, ImagesMove, ImagesDo, ImagesTell, ImagesCaused}
 use Rattle.smp_device.specs.Laws.{Laws}
+use Rattle.smp_device.specs.Mounts.{FellIn, IsUnmountedAt}
 use Rattle.smp_device.specs.Places.{Places, ArePlaces, place_at, spots_of, ImagesStand, places_of, ImagesSay}
 use Rattle.smp_device.specs.Settling.{Settles, SettledSay, Unsettled, alone_places, both_places, alone_settled, both_settled, unknown_at}
 use Rattle.smp_device.specs.declared.images.Images.{Images}
 use Rattle.smp_device.specs.declared.images.Replied.{Replied}
 use Rattle.smp_device.proofs.Asking.{zero_says, lost_says, first_says, other_kept, zero_one, one_zero, no_side}
+use Rattle.smp_device.proofs.Falling.{fell_by, fell_read}
 use Rattle.smp_device.proofs.Lifting.{side_here}
+use Rattle.smp_device.proofs.Paying.{pays_none}
 use Rattle.smp_device.proofs.Parting.{apart_of, covers_at, Covers-left}
 use Rattle.smp_device.proofs.Settlements.{after_settling, lost_first, lost_second}
 
@@ -55,7 +59,7 @@ pub unsettled_zero : Laws → (images : Images) (lost : Lost) (handed : Handed) 
 unsettled_zero laws images lost handed a b are e says broken m c = λ respond.
     let kept : held_layout handed.held ≡ held_layout images.zero = broken.layout_kept ∙ e in
     lost_first laws a.geometry (record { zero = handed.held; one = images.one; target = images.target }) (places_of images) are respond lost.fault handed.result images.target a b refl broken.failed
-    (λ i. record { first = kept i; second = option_map held_layout images.one }) m c
+    (λ i. record { first = kept i; second = option_map held_layout images.one }) (ap Some broken.unmounted) m c
     (zero_says laws a.geometry images are handed.held images.target a.bytes b.bytes (lost_says images.zero handed.held lost.fault a b kept broken.unmounted m (first_says images a.bytes says)) says m.calls.keeps)
 
 pub second_still : Laws → (g : Geometry) (images : Images) → ArePlaces g (places_of images) → (held : Held) → images.one ≡ Some held → (x y : Option (List ℕ)) → IfSome x (ImagesSay images) → Told (Keeps (mount_spots (held_layout images.zero))) x y → IfSome y (HeldSays held)
@@ -95,7 +99,7 @@ unsettled_one laws images held o zero lost handed a b c are l e first says one_s
     let second : Some (held_layout handed.held) ≡ option_map held_layout images.one = ap Some kept ∙ sym at in
     let after : Images = record { zero = helds.Mounted zero; one = Some handed.held; target = images.target } in
     lost_second laws a.geometry after (places_of images) are (held_layout held) at respond lost.fault handed.result images.target a b c refl broken.failed
-    (λ i. record { first = l i; second = second i }) first m cause
+    (λ i. record { first = l i; second = second i }) (ap Some broken.unmounted) first m cause
     (both_some (Says (known_mounted zero)) (HeldSays handed.held) (ImagesSay after) c.bytes (λ u p q. record { first = p; second = q })
     (first_still laws a.geometry images are held o zero l b.bytes c.bytes says m.calls.keeps) (lost_says held handed.held lost.fault b c kept broken.unmounted m one_says_b))
 
@@ -113,9 +117,13 @@ told_same R None (Some v) f e = absurd (cc e)
 told_same R (Some u) None f e = absurd (cc e)
 told_same R (Some u) (Some v) f e = let same : v ≡ u = cc e in subst (R u) (sym same) (f u)
 
+-- a read of the primary slot is among an image's calls
+read_calls : (l : Layout) (end : End) (a b : FlashState) → Calls (area_spot (slot_of l 0) ∷ []) end a b → Calls (mount_spots l) end a b
+read_calls l end a b calls = Calls-wider (mount_spots l) (area_spot (slot_of l 0) ∷ []) end a b (Covers-left (area_spot (slot_of l 0) ∷ []) (upload_spots l)) calls
+
 pub calls_at : (p : Places) (i : ℕ) (l : Layout) (end : End) (a b : FlashState) → place_at i p ≡ Some l → Calls (area_spot (slot_of l 0) ∷ []) end a b → Calls (spots_of p) end a b
 calls_at p i l end a b at calls = Calls-wider (spots_of p) (mount_spots l) end a b (covers_at p i l at)
-    (Calls-wider (mount_spots l) (area_spot (slot_of l 0) ∷ []) end a b (Covers-left (area_spot (slot_of l 0) ∷ []) (upload_spots l)) calls)
+    (read_calls l end a b calls)
 
 -- the response is this reply, and no steps
 abbrev IsAlone : Places → (t : ℕ) → (AbstractDevice → Response) → Said → List ℕ → Type 0
@@ -142,15 +150,25 @@ quiet p n t respond images reply a b places target calls kept says alone = recor
   ages = λ j l at. told_same (AgesAtMost n (progress_of l)) a.bytes b.bytes (λ u. record { kept = omega arith; most = omega arith }) kept;
   pending = λ j l at. told_same (KeepsPending l) a.bytes b.bytes (λ u. record { kept = λ is. refl; still = λ is. refl }) kept;
   caused = tt;
+  pays = pays_none p t (λ d. (respond d).steps) a b (IfSome-map (IsAlone p t respond (said_of reply)) (λ u. (d : AbstractDevice) → ImagesStand p t d u → (respond d).steps ≡ []) a.bytes (λ u f d stands. ap (λ (r : Response). r.steps) (f d stands)) alone);
+  lost = tt;
 }
 
 call_caused : (p : Places) (n : ℕ) (fault : CallFault) (x : Option (List ℕ)) → ImagesCaused p n (of_call fault) x
 call_caused p n (callfaults.Fault operation) x = tt
 call_caused p n callfaults.Off x = tt
 
-pub quiet_broken : (p : Places) (n t : ℕ) (respond : AbstractDevice → Response) (images : Images) (fault : CallFault) (u : UploadFault) (a b : FlashState) → places_of images ≡ p → images.target ≡ t → u ≡ of_call fault → Calls (spots_of p) (fault_end fault) a b → b.bytes ≡ a.bytes
+-- the fault of such a read fell in its image's regions
+pub read_fell : (p : Places) (n i : ℕ) (l : Layout) (fault : CallFault) (a b : FlashState) → place_at i p ≡ Some l → Calls (area_spot (slot_of l 0) ∷ []) (fault_end fault) a b → FellIn p n i (of_call fault) a b
+read_fell p n i l fault a b at calls = fell_by p n i l (Err (of_call fault)) a b at (subst (λ (e : End). Calls (mount_spots l) e a b) (slot_end fault) (read_calls l (fault_end fault) a b calls)) (slot_caused l n fault a.bytes)
+
+pub read_fell_then : (p : Places) (n i : ℕ) (l : Layout) (fault : CallFault) (a b c : FlashState) → place_at i p ≡ Some l → Calls (spots_of p) Went a b → b.bytes ≡ a.bytes → Calls (area_spot (slot_of l 0) ∷ []) (fault_end fault) b c → FellIn p n i (of_call fault) a c
+read_fell_then p n i l fault a b c at calls kept more = fell_read p n i (of_call fault) a b c calls.passes kept (read_fell p n i l fault b c at more)
+
+pub quiet_broken : (p : Places) (n t : ℕ) (respond : AbstractDevice → Response) (images : Images) (i : ℕ) (fault : CallFault) (u : UploadFault) (a b : FlashState) → places_of images ≡ p → images.target ≡ t → u ≡ of_call fault → IsUnmountedAt i images → FellIn p n i (of_call fault) a b
+    → Calls (spots_of p) (fault_end fault) a b → b.bytes ≡ a.bytes
     → IfSome a.bytes (ImagesSay images) → ImagesAnswer p n t respond images (Err u) a b
-quiet_broken p n t respond images fault u a b places target is calls kept says =
+quiet_broken p n t respond images i fault u a b places target is un fell calls kept says =
     let here : ImagesAnswer p n t respond images (Err (of_call fault)) a b = record {
       calls = subst (λ (e : End). Calls (spots_of p) e a b) (slot_end fault) calls;
       moves = subst (λ (k : ℕ). Told (ImagesMove p t k respond) a.bytes b.bytes) (sym target)
@@ -162,6 +180,8 @@ quiet_broken p n t respond images fault u a b places target is calls kept says =
       ages = λ j l at. told_same (AgesAtMost n (progress_of l)) a.bytes b.bytes (λ v. record { kept = omega arith; most = omega arith }) kept;
       pending = λ j l at. told_same (KeepsPending l) a.bytes b.bytes (λ v. record { kept = λ is. refl; still = λ is. refl }) kept;
       caused = call_caused p n fault a.bytes;
+      pays = tt;
+      lost = record { image = i; unmounted = un; fell = fell };
     } in
     subst (λ (f : UploadFault). ImagesAnswer p n t respond images (Err f) a b) (sym is) here
 
@@ -197,6 +217,9 @@ unknown_says m held bytes e s = subst (λ (h : Held). HeldSays h bytes) (sym e) 
 pub unknown_is : (m : Mounted) (l : Layout) (held : Held) → held ≡ unknown_at l → l ≡ (known_mounted m).layout → held ≡ unknown_at (known_mounted m).layout
 unknown_is m l held e f = e ∙ ap unknown_at f
 
+pub unknown_unmounted : (l : Layout) (held : Held) → held ≡ unknown_at l → option_map is_mounted (Some held) ≡ Some false
+unknown_unmounted l held e = ap (λ (h : Held). option_map is_mounted (Some h)) e
+
 pub list_alone_broken : (m : Mounted) (t : ℕ) (l : Layout) (held : Held) (fault : CallFault) (u : UploadFault) (a b : FlashState) → IfSome a.bytes (SettledSay (alone_settled m t)) → Calls (area_spot (slot_of (known_mounted m).layout 0) ∷ []) (fault_end fault) a b → b.bytes ≡ a.bytes
     → held ≡ unknown_at l → l ≡ (known_mounted m).layout → u ≡ of_call fault
     → ImagesAnswer (alone_places m) 0 t (lists_after []) (record { zero = held; one = None; target = t }) (Err u) a b
@@ -204,7 +227,7 @@ list_alone_broken m t l held fault u a b says calls kept e f is =
     let p = alone_places m in
     let images : Images = record { zero = held; one = None; target = t } in
     let un = unknown_is m l held e f in
-    quiet_broken p 0 t (lists_after []) images fault u a b (λ i. record { first = held_layout (un i); second = None }) refl is (calls_at p 0 p.first (fault_end fault) a b refl calls) kept
+    quiet_broken p 0 t (lists_after []) images 0 fault u a b (λ i. record { first = held_layout (un i); second = None }) refl is (unknown_unmounted (known_mounted m).layout held un) (read_fell p 0 0 p.first fault a b refl calls) (calls_at p 0 p.first (fault_end fault) a b refl calls) kept
     (both_some (SettledSay (alone_settled m t)) (SettledSay (alone_settled m t)) (ImagesSay images) a.bytes (λ v s s2. record { first = unknown_says m held v un s.first; second = tt }) says says)
 
 pub list_both_done : (m n : Mounted) (t : ℕ) (first second : SidePair) (a b c : FlashState) → IfSome a.bytes (SettledSay (both_settled m n t))
@@ -227,7 +250,7 @@ list_both_first m n t l held fault u a b says calls kept e f is =
     let p = both_places m n in
     let images : Images = record { zero = held; one = Some (helds.Mounted n); target = t } in
     let un = unknown_is m l held e f in
-    quiet_broken p 0 t (lists_after []) images fault u a b (λ i. record { first = held_layout (un i); second = Some (known_mounted n).layout }) refl is (calls_at p 0 p.first (fault_end fault) a b refl calls) kept
+    quiet_broken p 0 t (lists_after []) images 0 fault u a b (λ i. record { first = held_layout (un i); second = Some (known_mounted n).layout }) refl is (unknown_unmounted (known_mounted m).layout held un) (read_fell p 0 0 p.first fault a b refl calls) (calls_at p 0 p.first (fault_end fault) a b refl calls) kept
     (both_some (SettledSay (both_settled m n t)) (SettledSay (both_settled m n t)) (ImagesSay images) a.bytes (λ v s s2. record { first = unknown_says m held v un s.first; second = s.second }) says says)
 
 pub list_both_second : (m n : Mounted) (t : ℕ) (l : Layout) (held : Held) (fault : CallFault) (u : UploadFault) (a b c : FlashState) → IfSome a.bytes (SettledSay (both_settled m n t)) → Calls (area_spot (slot_of (known_mounted m).layout 0) ∷ []) Went a b → b.bytes ≡ a.bytes
@@ -237,7 +260,8 @@ list_both_second m n t l held fault u a b c says calls kept more still e f is =
     let p = both_places m n in
     let images : Images = record { zero = helds.Mounted m; one = Some held; target = t } in
     let un = unknown_is n l held e f in
-    quiet_broken p 0 t (lists_after []) images fault u a c (λ i. record { first = (known_mounted m).layout; second = Some (held_layout (un i)) }) refl is
+    quiet_broken p 0 t (lists_after []) images 1 fault u a c (λ i. record { first = (known_mounted m).layout; second = Some (held_layout (un i)) }) refl is (unknown_unmounted (known_mounted n).layout held un)
+    (read_fell_then p 0 1 (known_mounted n).layout fault a b c refl (calls_at p 0 p.first Went a b refl calls) kept more)
     (Calls-after (spots_of p) (fault_end fault) a b c (calls_at p 0 p.first Went a b refl calls) (calls_at p 1 (known_mounted n).layout (fault_end fault) b c refl more)) (still ∙ kept)
     (both_some (SettledSay (both_settled m n t)) (SettledSay (both_settled m n t)) (ImagesSay images) a.bytes (λ v s s2. record { first = s.first; second = unknown_says n held v un s.second }) says says)
 

@@ -1,7 +1,8 @@
 -- The mounting of all images, and what comes after it.
-use Rattle.std.proofs.Common.{◌≡◌, ℕ, zero, suc, ◌+◌, ◌≤◌, Option, Some, None, List, ◌++◌, Result, Ok, Err, refl, sym, ◌∙◌, ap, subst, arith}
+use Rattle.std.proofs.Common.{◌≡◌, ℕ, zero, suc, ◌+◌, ◌≤◌, Option, Some, None, List, [], ◌∷◌, ◌++◌, Result, Ok, Err, refl, sym, ◌∙◌, ap, subst, arith}
 use Rattle.std.specs.Prelude.{IfSome, OnOk, IfOk}
 use Rattle.smp_flash.specs.Area.{Told, Keeps}
+use Rattle.smp_flash.specs.Calls.{Calls}
 use Rattle.smp_flash.specs.Layout.{progress_of}
 use Rattle.smp_flash.specs.State.{FlashState}
 use Rattle.smp_flash.specs.State.End.{Went}
@@ -9,7 +10,7 @@ use Rattle.smp_flash.specs.declared.geometry.Geometry.{Geometry}
 use Rattle.smp_flash.specs.declared.layout.Layout.{Layout}
 use Rattle.smp_flash.proofs.Passing.{Calls-after, Calls-wider}
 use Rattle.smp_flash.proofs.Telling.{Told-map, Told-trans}
-use Rattle.smp_gate.specs.Newest.{AgesAtMost, newest_generation}
+use Rattle.smp_gate.specs.Newest.{AgesAtMost}
 use Rattle.smp_model.specs.declared.device.AbstractDevice.{AbstractDevice}
 use Rattle.smp_model.specs.declared.device.Side.{Side}
 use Rattle.smp_model.specs.declared.reply.Reply.{Reply}
@@ -17,7 +18,6 @@ use Rattle.smp_model.specs.Response.{Response, settling}
 use Rattle.smp_model.specs.Said.{if_some}
 use Rattle.smp_model.specs.Sides.{side_applied, side_settle_steps}
 use Rattle.smp_model.specs.Steps.{Step, applied, on_side, side_at, with_side, settle, settle_of, settle_steps, settle_steps_of, Part}
-use Rattle.smp_progress.specs.State.{CanTake}
 use Rattle.smp_upload.specs.Faults.{upload_fault_end}
 use Rattle.smp_upload.specs.Moves.{Moves, Does, Moved, Done, KeepsPending, mount_spots}
 use Rattle.smp_upload.specs.declared.states.UploadFault.{UploadFault}
@@ -25,13 +25,16 @@ use Rattle.smp_upload.specs.declared.states.UploadFault.TheVariants as faults
 use Rattle.smp_upload.proofs.Apartness.{ages_clear}
 use Rattle.smp_upload.proofs.Composing.{shows_stands, ages_sum, ages_more, keeps_trans}
 use Rattle.smp_side.specs.Held.{Caused, result_end}
-use Rattle.smp_device.specs.Answers.{ImagesAnswer, ImagesReached, ImagesMove, ImagesDo, ImagesTell, ImagesCaused, ResultCausedIn}
+use Rattle.smp_device.specs.Answers.{ImagesAnswer, ImagesReached, ImagesMove, ImagesDo, ImagesPay, ImagesTell, ImagesCaused, ResultCausedIn}
 use Rattle.smp_device.specs.Laws.{Laws}
+use Rattle.smp_device.specs.Mounts.{IsUnmountedAt}
 use Rattle.smp_device.specs.Places.{Places, ArePlaces, place_at, spots_of, ImagesStand, AtEach, places_of, ImagesSay}
 use Rattle.smp_device.specs.Settling.{Settle, Settles}
 use Rattle.smp_device.specs.declared.images.Images.{Images}
-use Rattle.smp_device.proofs.Asking.{no_side, zero_one, one_zero}
-use Rattle.smp_device.proofs.Lifting.{side_here, stands_with, steps_target, with_found, with_other, with_target, applied_append, told_two, caused_one}
+use Rattle.smp_device.proofs.Asking.{no_side, told_alone, zero_one, one_zero}
+use Rattle.smp_device.proofs.Falling.{fell_by, lost_behind, told_none, worn_before}
+use Rattle.smp_device.proofs.Paying.{pays_both, pays_mount, pays_same}
+use Rattle.smp_device.proofs.Lifting.{worn_more, caused_more, side_here, stands_with, steps_target, with_found, with_other, with_target, applied_append, told_two, caused_one}
 use Rattle.smp_device.proofs.Parting.{apart_of, covers_at, ages_each, pending_each, some_is}
 
 -- One image's mount.
@@ -92,17 +95,6 @@ ages_wider m n p x y le f = λ i l at. Told-map (AgesAtMost m (progress_of l)) (
 pub pending_both : (p : Places) (x y z : Option (List ℕ)) → AtEach (λ l. Told (KeepsPending l) x y) p → AtEach (λ l. Told (KeepsPending l) y z) p → AtEach (λ l. Told (KeepsPending l) x z) p
 pending_both p x y z f h = λ i l at. Told-trans (KeepsPending l) (KeepsPending l) (KeepsPending l) x y z (keeps_trans l) (f i l at) (h i l at)
 
-told_none : (R : List ℕ → List ℕ → Type 0) (x y : Option (List ℕ)) → Told R x y → y ≡ None → x ≡ None
-told_none R None y f e = refl
-told_none R (Some u) None f e = absurd f
-told_none R (Some u) (Some v) f e = absurd (cc e)
-
-worn_before : (l : Layout) (m n : ℕ) (x y : Option (List ℕ)) → Told (AgesAtMost m (progress_of l)) x y → IfSome y (λ held. CanTake (newest_generation (progress_of l) held) n → ⊥)
-    → IfSome x (λ held. CanTake (newest_generation (progress_of l) held) (m + n) → ⊥)
-worn_before l m n None y f w = tt
-worn_before l m n (Some u) None f w = absurd f
-worn_before l m n (Some u) (Some v) f w = λ take. let most = f.most in w (omega arith)
-
 caused_before : (p : Places) (m n : ℕ) (fault : UploadFault) (x y : Option (List ℕ)) → AtEach (λ l. Told (AgesAtMost m (progress_of l)) x y) p → ImagesCaused p n fault y → ImagesCaused p (m + n) fault x
 caused_before p m n faults.Unformatted x y f c = told_none (AgesAtMost m (progress_of p.first)) x y (f 0 p.first refl) c
 caused_before p m n faults.Worn x y f c = record { image = c.image; layout = c.layout; place = c.place; worn = worn_before c.layout m n x y (f c.image c.layout c.place) c.worn }
@@ -112,10 +104,6 @@ caused_before p m n faults.Off x y f c = tt
 pub result_before : (p : Places) (m n : ℕ) (r : Result Reply UploadFault) (x y : Option (List ℕ)) → AtEach (λ l. Told (AgesAtMost m (progress_of l)) x y) p → ResultCausedIn p n r y → ResultCausedIn p (m + n) r x
 result_before p m n (Ok reply) x y f c = tt
 result_before p m n (Err fault) x y f c = caused_before p m n fault x y f c
-
-worn_more : (l : Layout) (m n : ℕ) (x : Option (List ℕ)) → m ≤ n → IfSome x (λ held. CanTake (newest_generation (progress_of l) held) m → ⊥) → IfSome x (λ held. CanTake (newest_generation (progress_of l) held) n → ⊥)
-worn_more l m n None le w = tt
-worn_more l m n (Some u) le w = λ take. w (omega arith)
 
 pub caused_wider : (p : Places) (m n : ℕ) (fault : UploadFault) (x : Option (List ℕ)) → m ≤ n → ImagesCaused p m fault x → ImagesCaused p n fault x
 caused_wider p m n faults.Unformatted x le c = c
@@ -145,6 +133,11 @@ settled_said : (p : Places) (t : ℕ) (respond : AbstractDevice → Response) (r
 settled_said p t respond (Ok reply) x y f h = settled_tells p t respond reply x y f h
 settled_said p t respond (Err fault) x y f h = tt
 
+settled_pays : (p : Places) (t : ℕ) (respond : AbstractDevice → Response) (r : Result Reply UploadFault) (a b c : FlashState) → Settles p t a b → Calls (spots_of p) (result_end r) b c
+    → OnOk r (ImagesPay p t respond b c) → OnOk r (ImagesPay p t (λ d. settling d respond) a c)
+settled_pays p t respond (Ok reply) a b c f calls h = pays_both p t settle_steps (λ d. (respond d).steps) a b c f.calls.passes calls.passes f.pays f.does h
+settled_pays p t respond (Err fault) a b c f calls h = tt
+
 pub after_settling : Laws → (p : Places) (n t : ℕ) (respond : AbstractDevice → Response) (images : Images) (r : Result Reply UploadFault) (a b c : FlashState) → n ≤ 3
     → Settles p t a b → ImagesAnswer p n t respond images r b c → ImagesAnswer p 5 t (λ d. settling d respond) images r a c
 after_settling laws p n t respond images r a b c le f h = record {
@@ -157,6 +150,8 @@ after_settling laws p n t respond images r a b c le f h = record {
   ages = ages_wider (2 + n) 5 p a.bytes c.bytes (omega arith) (ages_both 2 n p a.bytes b.bytes c.bytes f.ages h.ages);
   pending = pending_both p a.bytes b.bytes c.bytes f.pending h.pending;
   caused = widest r (result_before p 2 n r a.bytes b.bytes f.ages h.caused);
+  pays = settled_pays p t respond r a b c f h.calls h.pays;
+  lost = lost_behind p 2 n 5 images r a b c (omega arith) f.calls.passes f.ages h.lost;
 }
   where
     widest : (q : Result Reply UploadFault) → ResultCausedIn p (2 + n) q a.bytes → ResultCausedIn p 5 q a.bytes
@@ -165,6 +160,18 @@ after_settling laws p n t respond images r a b c le f h = record {
 
 -- Image 0 alone, and both.
 
+pub append_none : (s : List Step) → s ++ [] ≡ s
+append_none [] = refl
+append_none (x ∷ s) = ap (λ (r : List Step). x ∷ r) (append_none s)
+
+-- a device of one image settles it alone
+alone_steps : (d : AbstractDevice) → side_at 1 d ≡ None → settle_steps_of 0 d ≡ settle_steps d
+alone_steps d none = sym (ap (λ (o : Option Side). settle_steps_of 0 d ++ steps_at 1 o) none ∙ append_none (settle_steps_of 0 d))
+
+some_alone : (p : Places) (t : ℕ) → p.second ≡ None → (x : Option (List ℕ)) → IfSome x (λ u. (d : AbstractDevice) → ImagesStand p t d u → settle_steps_of 0 d ≡ settle_steps d)
+some_alone p t none None = tt
+some_alone p t none (Some u) = λ d stands. alone_steps d (no_side 1 p d u p.second (side_at 1 d) none (stands.sides 1))
+
 pub settles_alone : Laws → (g : Geometry) (p : Places) → ArePlaces g p → (t : ℕ) (a b : FlashState) → p.second ≡ None → Done p.first (mount_spots p.first) 2 side_settle_steps a b → Settles p t a b
 settles_alone laws g p are t a b none done = record {
   calls = Calls-wider (spots_of p) (mount_spots p.first) Went a b (covers_at p 0 p.first refl) done.calls;
@@ -172,6 +179,7 @@ settles_alone laws g p are t a b none done = record {
       (λ u v f k d stands. subst (λ (e : AbstractDevice). ImagesStand p t e v) (settle_alone d (no_side 1 p d u p.second (side_at 1 d) none (stands.sides 1))) (does_at laws g p are 0 p.first refl t u v f k d stands)) done.does done.calls.keeps;
   ages = ages_each g p 0 p.first 2 a.bytes b.bytes are refl done.ages done.calls.keeps;
   pending = pending_each g p 0 p.first a.bytes b.bytes are refl done.pending done.calls.keeps;
+  pays = pays_same p t (settle_steps_of 0) settle_steps a b (some_alone p t none a.bytes) (pays_mount g p are 0 p.first refl t a b done);
 }
 
 -- an image that a mount keeps clear of does not age
@@ -210,6 +218,11 @@ settles_both laws g p are l at t a b c first second = record {
       (told_two (Does l side_settle_steps) (Keeps (mount_spots l)) (OneDoes p t 1) b.bytes c.bytes (λ u v. does_at laws g p are 1 l at t u v) second.does second.calls.keeps);
   ages = ages_apart g p are l at a.bytes b.bytes c.bytes first.ages first.calls.keeps second.ages second.calls.keeps;
   pending = pending_both p a.bytes b.bytes c.bytes (pending_each g p 0 p.first a.bytes b.bytes are refl first.pending first.calls.keeps) (pending_each g p 1 l b.bytes c.bytes are at second.pending second.calls.keeps);
+  pays = pays_same p t (λ d. settle_steps_of 0 d ++ settle_steps_of 1 (settle_of 0 d)) settle_steps a c (told_alone (λ u. (d : AbstractDevice) → ImagesStand p t d u → settle_steps_of 0 d ++ settle_steps_of 1 (settle_of 0 d) ≡ settle_steps d) a.bytes
+      (λ u d stands. ap (λ (s : List Step). settle_steps_of 0 d ++ s) (second_steps laws d)))
+      (pays_both p t (settle_steps_of 0) (settle_steps_of 1) a b c first.calls.passes second.calls.passes (pays_mount g p are 0 p.first refl t a b first)
+      (told_two (Does p.first side_settle_steps) (Keeps (mount_spots p.first)) (OneDoes p t 0) a.bytes b.bytes (λ u v. does_at laws g p are 0 p.first refl t u v) first.does first.calls.keeps)
+      (pays_mount g p are 1 l at t b c second));
 }
 
 -- A mount that was lost: of image 0, and of image 1 behind it.
@@ -224,9 +237,9 @@ second_moves laws p t respond old middle new f h = λ d stands.
     let here : ImagesReached p t (settle_of 0 d) (settle_steps_of 1 d) new = subst (λ (s : List Step). ImagesReached p t (settle_of 0 d) s new) (second_steps laws d) r in
     reached_more laws p t d (settle_steps d) (respond (settle d)).steps new (reached_behind laws p t d (settle_steps_of 0 d) (settle_steps_of 1 d) new here)
 
-pub lost_first : Laws → (g : Geometry) (images : Images) (p : Places) → ArePlaces g p → (respond : AbstractDevice → Response) (fault : UploadFault) (r : Result Reply UploadFault) (t : ℕ) (a b : FlashState) → images.target ≡ t → r ≡ Err fault → places_of images ≡ p
+pub lost_first : Laws → (g : Geometry) (images : Images) (p : Places) → ArePlaces g p → (respond : AbstractDevice → Response) (fault : UploadFault) (r : Result Reply UploadFault) (t : ℕ) (a b : FlashState) → images.target ≡ t → r ≡ Err fault → places_of images ≡ p → IsUnmountedAt 0 images
     → Moved p.first (mount_spots p.first) 2 side_settle_steps (upload_fault_end fault) a b → Caused p.first 2 fault a.bytes → IfSome b.bytes (ImagesSay images) → ImagesAnswer p 5 t (λ d. settling d respond) images r a b
-lost_first laws g images p are respond fault r t a b target is places m c says =
+lost_first laws g images p are respond fault r t a b target is places un m c says =
     let u = images.target in
     let k = m.calls.keeps in
     let moved : Told (ImagesMove p t t (λ d. settling d respond)) a.bytes b.bytes =
@@ -242,13 +255,15 @@ lost_first laws g images p are respond fault r t a b target is places m c says =
       ages = ages_wider 2 5 p a.bytes b.bytes (omega arith) (ages_each g p 0 p.first 2 a.bytes b.bytes are refl m.ages k);
       pending = pending_each g p 0 p.first a.bytes b.bytes are refl m.pending k;
       caused = caused_wider p 2 5 fault a.bytes (omega arith) (caused_one p 0 p.first 2 fault a.bytes refl c);
+      pays = tt;
+      lost = record { image = 0; unmounted = un; fell = fell_by p 5 0 p.first (Err fault) a b refl m.calls (caused_more p.first 2 5 fault a.bytes (omega arith) c) };
     } in
     subst (λ (q : Result Reply UploadFault). ImagesAnswer p 5 t (λ d. settling d respond) images q a b) (sym is) here
 
 pub lost_second : Laws → (g : Geometry) (images : Images) (p : Places) → ArePlaces g p → (l : Layout) → p.second ≡ Some l → (respond : AbstractDevice → Response) (fault : UploadFault) (r : Result Reply UploadFault) (t : ℕ) (a b c : FlashState)
-    → images.target ≡ t → r ≡ Err fault → places_of images ≡ p → Done p.first (mount_spots p.first) 2 side_settle_steps a b
+    → images.target ≡ t → r ≡ Err fault → places_of images ≡ p → IsUnmountedAt 1 images → Done p.first (mount_spots p.first) 2 side_settle_steps a b
     → Moved l (mount_spots l) 2 side_settle_steps (upload_fault_end fault) b c → Caused l 2 fault b.bytes → IfSome c.bytes (ImagesSay images) → ImagesAnswer p 5 t (λ d. settling d respond) images r a c
-lost_second laws g images p are l at respond fault r t a b c target is places first m cause says =
+lost_second laws g images p are l at respond fault r t a b c target is places un first m cause says =
     let k = m.calls.keeps in
     let ages_b = ages_each g p 0 p.first 2 a.bytes b.bytes are refl first.ages first.calls.keeps in
     let moved : Told (ImagesMove p t t (λ d. settling d respond)) a.bytes c.bytes =
@@ -265,5 +280,7 @@ lost_second laws g images p are l at respond fault r t a b c target is places fi
       ages = ages_wider 2 5 p a.bytes c.bytes (omega arith) (ages_apart g p are l at a.bytes b.bytes c.bytes first.ages first.calls.keeps m.ages k);
       pending = pending_both p a.bytes b.bytes c.bytes (pending_each g p 0 p.first a.bytes b.bytes are refl first.pending first.calls.keeps) (pending_each g p 1 l b.bytes c.bytes are at m.pending k);
       caused = caused_wider p 4 5 fault a.bytes (omega arith) (caused_before p 2 2 fault a.bytes b.bytes ages_b (caused_one p 1 l 2 fault b.bytes at cause));
+      pays = tt;
+      lost = lost_behind p 2 2 5 images (Err fault) a b c (omega arith) first.calls.passes ages_b (record { image = 1; unmounted = un; fell = fell_by p 2 1 l (Err fault) b c at m.calls cause });
     } in
     subst (λ (q : Result Reply UploadFault). ImagesAnswer p 5 t (λ d. settling d respond) images q a c) (sym is) here

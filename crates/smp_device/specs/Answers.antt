@@ -1,10 +1,11 @@
 -- What came of a request about images.
-use Rattle.std.specs.Prelude.{◌≡◌, ℕ, List, Option, Some, None, Result, Ok, Err, OnOk, IfOk, IfSome}
+use Rattle.std.specs.Prelude.{◌≡◌, ℕ, List, Option, Some, None, Result, Ok, Err, OnOk, IfErr, IfOk, IfSome, IsSomeAnd}
 use Rattle.smp_flash.specs.Area.{Told}
-use Rattle.smp_flash.specs.Calls.{Calls}
+use Rattle.smp_flash.specs.Calls.{Calls, Smaller}
 use Rattle.smp_flash.specs.Layout.{progress_of}
 use Rattle.smp_flash.specs.State.{FlashState}
 use Rattle.smp_flash.specs.declared.layout.Layout.{Layout}
+use Rattle.smp_flash.specs.declared.region.Region.{Region}
 use Rattle.smp_gate.specs.Newest.{AgesAtMost, newest_generation}
 use Rattle.smp_model.specs.declared.device.AbstractDevice.{AbstractDevice}
 use Rattle.smp_model.specs.declared.reply.Reply.{Reply}
@@ -16,6 +17,8 @@ use Rattle.smp_upload.specs.Moves.{KeepsPending}
 use Rattle.smp_upload.specs.declared.states.UploadFault.{UploadFault}
 use Rattle.smp_upload.specs.declared.states.UploadFault.TheVariants as faults
 use Rattle.smp_side.specs.Held.{result_end}
+use Rattle.smp_device.specs.Goings.{AreCounted}
+use Rattle.smp_device.specs.Mounts.{FellIn, IsUnmountedAt}
 use Rattle.smp_device.specs.Places.{Places, place_at, spots_of, ImagesStand, AtEach, places_of, ImagesSay}
 use Rattle.smp_device.specs.declared.images.Images.{Images}
 
@@ -55,6 +58,20 @@ abbrev pub ResultCausedIn : Places → ℕ → Result Reply UploadFault → Opti
 ResultCausedIn p n (Ok reply) x = Unit {0}
 ResultCausedIn p n (Err fault) x = ImagesCaused p n fault x
 
+-- Where what is armed lies in a region that counts one of the steps of the device that the bytes stand for, patience was taken of it.
+-- Of `Any` nothing is said here: it counts each change of a byte.
+abbrev pub StepsPay : Places → (before : ℕ) → (AbstractDevice → List Step) → FlashState → FlashState → Type 0
+StepsPay p before steps a b = (region : Region) (d : AbstractDevice) → a.aim ≡ Some region → IsSomeAnd a.bytes (ImagesStand p before d) → AreCounted region d (steps d) → Smaller a.patience b.patience
+
+abbrev pub ImagesPay : Places → (before : ℕ) → (AbstractDevice → Response) → FlashState → FlashState → Type 0
+ImagesPay p before respond a b = StepsPay p before (λ d. (respond d).steps) a b
+
+-- one image is not mounted, in whose regions the fault fell
+pub record LostOne (p : Places) (n : ℕ) (images : Images) (fault : UploadFault) (a b : FlashState) : Type 0 where
+  pub image : ℕ
+  pub unmounted : IsUnmountedAt image images
+  pub fell : FellIn p n image fault a b
+
 -- A request about images was answered by this response, or was broken off: whatever device the bytes stood for, they stand for it
 -- after all its steps, or after some first ones.
 pub record ImagesAnswer (p : Places) (n before : ℕ) (respond : AbstractDevice → Response) (images : Images) (result : Result Reply UploadFault) (a b : FlashState) : Type 0 where
@@ -67,3 +84,5 @@ pub record ImagesAnswer (p : Places) (n before : ℕ) (respond : AbstractDevice 
   pub ages : AtEach (λ l. Told (AgesAtMost n (progress_of l)) a.bytes b.bytes) p
   pub pending : AtEach (λ l. Told (KeepsPending l) a.bytes b.bytes) p
   pub caused : ResultCausedIn p n result a.bytes
+  pub pays : OnOk result (ImagesPay p before respond a b)
+  pub lost : IfErr result (λ fault. LostOne p n images fault a b)

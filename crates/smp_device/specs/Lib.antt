@@ -5,6 +5,7 @@ pub mod Laws
 pub mod Uploads
 pub mod Settling
 pub mod Setting
+pub mod Mounts
 pub mod Goings
 pub mod Up
 pub mod Serving

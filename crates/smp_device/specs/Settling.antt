@@ -8,14 +8,14 @@ use Rattle.smp_flash.specs.State.End.{Went}
 use Rattle.smp_gate.specs.Newest.{AgesAtMost}
 use Rattle.smp_model.specs.declared.device.AbstractDevice.{AbstractDevice}
 use Rattle.smp_model.specs.Response.{Response, settling}
-use Rattle.smp_model.specs.Steps.{settle}
+use Rattle.smp_model.specs.Steps.{settle, settle_steps}
 use Rattle.smp_upload.specs.Moves.{KeepsPending}
 use Rattle.smp_upload.specs.States.{Says, known_mounted}
 use Rattle.smp_upload.specs.declared.states.Mounted.{Mounted}
 use Rattle.smp_flash.specs.declared.layout.Layout.{Layout}
 use Rattle.smp_side.specs.declared.held.Held.{Held}
 use Rattle.smp_side.specs.declared.held.Held.TheVariants as helds
-use Rattle.smp_device.specs.Answers.{ImagesAnswer}
+use Rattle.smp_device.specs.Answers.{ImagesAnswer, StepsPay}
 use Rattle.smp_device.specs.Places.{Places, spots_of, ImagesStand, AtEach}
 use Rattle.smp_device.specs.declared.images.Replied.{Replied}
 use Rattle.smp_device.specs.declared.settled.Settled.{Settled}
@@ -29,6 +29,7 @@ pub record Settles (p : Places) (t : ℕ) (a b : FlashState) : Type 0 where
   pub does : Told (Settle p t) a.bytes b.bytes
   pub ages : AtEach (λ l. Told (AgesAtMost 2 (progress_of l)) a.bytes b.bytes) p
   pub pending : AtEach (λ l. Told (KeepsPending l) a.bytes b.bytes) p
+  pub pays : StepsPay p t settle_steps a b
 
 -- the places of the mounted images
 abbrev pub settled_places : Settled → Places

@@ -1,11 +1,12 @@
 //! A request about one image, over the device's images.
 
-ghost use Rattle.std.specs.Prelude.{◌≡◌, Err, IfSome};
+ghost use Rattle.std.specs.Prelude.{◌≡◌, Err, None, IfErr, IfSome};
 ghost use Rattle.smp_flash.specs.Layout.{geometry_of};
 ghost use Rattle.smp_upload.specs.States.{Says, known_mounted};
 ghost use Rattle.smp_side.specs.Held.{Answers};
 ghost use Rattle.smp_device.specs.Answers.{ImagesAnswer};
-ghost use Rattle.smp_device.specs.Places.{ArePlaces, ImagesSay, places_of};
+ghost use Rattle.smp_device.specs.Mounts.{FellIn, Untouched};
+ghost use Rattle.smp_device.specs.Places.{ArePlaces, ImagesSay, place_at, places_of};
 ghost use Rattle.smp_device.specs.Requests.{IsStart, MountsOf, moved_target, responds_on, side_response};
 
 use crate::images::{Images, Replied, SideRequest};
@@ -58,6 +59,7 @@ fn ask_zero<F: Flash>(images: Images, flash: &mut F, request: &SideRequest<'_>) 
     requires start { IsStart (F.state flash.old).geometry request.now }
     ensures answers { ImagesAnswer (places_of images) 5 images.target (responds_on (F.state flash.old).geometry.unit request.now 0) result.images result.result (F.state flash.old) (F.state flash.new) }
     ensures mounts { MountsOf 0 images result }
+    ensures fell { IfErr result.result (λ fault. FellIn (places_of images) 5 0 fault (F.state flash.old) (F.state flash.new)) }
 {
     side_laws();
     sides_are_told_apart();
@@ -96,6 +98,8 @@ fn ask_one<F: Flash>(images: Images, flash: &mut F, request: &SideRequest<'_>) -
     requires start { IsStart (F.state flash.old).geometry request.now }
     ensures answers { ImagesAnswer (places_of images) 5 images.target (responds_on (F.state flash.old).geometry.unit request.now 1) result.images result.result (F.state flash.old) (F.state flash.new) }
     ensures mounts { MountsOf 1 images result }
+    ensures fell { IfErr result.result (λ fault. FellIn (places_of images) 5 1 fault (F.state flash.old) (F.state flash.new)) }
+    ensures absent { place_at 1 (places_of images) ≡ None → Untouched images result (F.state flash.old) (F.state flash.new) }
 {
     side_laws();
     sides_are_told_apart();
@@ -160,6 +164,8 @@ pub fn ask_image<F: Flash>(
     requires start { IsStart (F.state flash.old).geometry request.now }
     ensures answers { ImagesAnswer (places_of images) 5 images.target (responds_on (F.state flash.old).geometry.unit request.now image) result.images result.result (F.state flash.old) (F.state flash.new) }
     ensures mounts { MountsOf image images result }
+    ensures fell { IfErr result.result (λ fault. FellIn (places_of images) 5 image fault (F.state flash.old) (F.state flash.new)) }
+    ensures absent { place_at image (places_of images) ≡ None → Untouched images result (F.state flash.old) (F.state flash.new) }
 {
     if image == 0 {
         return ask_zero(images, flash, request);

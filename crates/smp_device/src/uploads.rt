@@ -5,10 +5,12 @@ ghost use Rattle.smp_flash.specs.Geometry.{slot_size, Regular, is_lawful};
 ghost use Rattle.std.specs.Prelude.{IsTrue};
 ghost use Rattle.smp_flash.specs.Layout.{geometry_of};
 ghost use Rattle.smp_model.specs.Does.{does};
+ghost use Rattle.smp_model.specs.FlashUse.{is_start_taken};
 ghost use Rattle.smp_model.specs.ImageGroup.{begins_with_magic, has_wrong_size, side_of};
 ghost use Rattle.smp_model.specs.Meant as meant;
 ghost use Rattle.smp_side.specs.Held.{held_layout};
 ghost use Rattle.smp_device.specs.Answers.{ImagesAnswer};
+ghost use Rattle.smp_device.specs.Mounts.{MountsItsOwn, MountsOne, Untouched, Untouches};
 ghost use Rattle.smp_device.specs.Places.{ArePlaces, ImagesSay, place_at, places_of};
 ghost use Rattle.smp_device.specs.Uploads.{Announces, sizes_of};
 
@@ -140,7 +142,9 @@ fn upload_start<F: Flash>(
     requires there { IsSome (place_at image (places_of images)) }
     requires meant { image ≡ side_of images.target part.now.image part.now.off (option_map (λ s. s.now) part.now.sha) }
     requires first { part.now.off ≡ 0 }
-    ensures { ImagesAnswer (places_of images) 5 images.target (λ d. does (sizes_of (F.state flash.old).geometry) d (meant.upload part.now.image part.now.len part.now.off (option_map (λ s. s.now) part.now.sha) part.now.bytes.now)) result.images result.result (F.state flash.old) (F.state flash.new) }
+    ensures answers { ImagesAnswer (places_of images) 5 images.target (λ d. does (sizes_of (F.state flash.old).geometry) d (meant.upload part.now.image part.now.len part.now.off (option_map (λ s. s.now) part.now.sha) part.now.bytes.now)) result.images result.result (F.state flash.old) (F.state flash.new) }
+    ensures untouched { is_start_taken (sizes_of (F.state flash.old).geometry) part.now.len (option_map (λ s. s.now) part.now.sha) part.now.bytes.now ≡ false → Untouched images result (F.state flash.old) (F.state flash.new) }
+    ensures mounts { is_start_taken (sizes_of (F.state flash.old).geometry) part.now.len (option_map (λ s. s.now) part.now.sha) part.now.bytes.now ≡ true → MountsOne (places_of images) image images result (F.state flash.old) (F.state flash.new) }
 {
     side_laws();
     let geometry = sizes(&images);
@@ -169,7 +173,9 @@ fn upload_part<F: Flash>(
     requires there { IsSome (place_at image (places_of images)) }
     requires meant { image ≡ side_of images.target part.now.image part.now.off (option_map (λ s. s.now) part.now.sha) }
     requires further { part.now.off ≡ 0 → ⊥ }
-    ensures { ImagesAnswer (places_of images) 5 images.target (λ d. does (sizes_of (F.state flash.old).geometry) d (meant.upload part.now.image part.now.len part.now.off (option_map (λ s. s.now) part.now.sha) part.now.bytes.now)) result.images result.result (F.state flash.old) (F.state flash.new) }
+    ensures answers { ImagesAnswer (places_of images) 5 images.target (λ d. does (sizes_of (F.state flash.old).geometry) d (meant.upload part.now.image part.now.len part.now.off (option_map (λ s. s.now) part.now.sha) part.now.bytes.now)) result.images result.result (F.state flash.old) (F.state flash.new) }
+    ensures untouched { has_wrong_size (option_map (λ s. s.now) part.now.sha) ≡ true → Untouched images result (F.state flash.old) (F.state flash.new) }
+    ensures mounts { has_wrong_size (option_map (λ s. s.now) part.now.sha) ≡ false → MountsOne (places_of images) image images result (F.state flash.old) (F.state flash.new) }
 {
     side_laws();
     match digest_of(part.sha) {
@@ -189,7 +195,9 @@ fn upload_part<F: Flash>(
 pub fn upload<F: Flash>(images: Images, flash: &mut F, part: &UploadPart<'_>) -> Replied
     requires places { ArePlaces (F.state flash.old).geometry (places_of images) }
     requires says { IfSome (F.state flash.old).bytes (ImagesSay images) }
-    ensures { ImagesAnswer (places_of images) 5 images.target (λ d. does (sizes_of (F.state flash.old).geometry) d (meant.upload part.now.image part.now.len part.now.off (option_map (λ s. s.now) part.now.sha) part.now.bytes.now)) result.images result.result (F.state flash.old) (F.state flash.new) }
+    ensures answers { ImagesAnswer (places_of images) 5 images.target (λ d. does (sizes_of (F.state flash.old).geometry) d (meant.upload part.now.image part.now.len part.now.off (option_map (λ s. s.now) part.now.sha) part.now.bytes.now)) result.images result.result (F.state flash.old) (F.state flash.new) }
+    ensures untouched { Untouches (sizes_of (F.state flash.old).geometry) (meant.upload part.now.image part.now.len part.now.off (option_map (λ s. s.now) part.now.sha) part.now.bytes.now) images result (F.state flash.old) (F.state flash.new) }
+    ensures mounts { MountsItsOwn (sizes_of (F.state flash.old).geometry) (meant.upload part.now.image part.now.len part.now.off (option_map (λ s. s.now) part.now.sha) part.now.bytes.now) images result (F.state flash.old) (F.state flash.new) }
 {
     let image = image_of(images.target, part);
     if !has_image(&images, image) {
@@ -205,7 +213,9 @@ pub fn upload<F: Flash>(images: Images, flash: &mut F, part: &UploadPart<'_>) ->
 pub fn erase<F: Flash>(images: Images, flash: &mut F, slot: u32) -> Replied
     requires places { ArePlaces (F.state flash.old).geometry (places_of images) }
     requires says { IfSome (F.state flash.old).bytes (ImagesSay images) }
-    ensures { ImagesAnswer (places_of images) 5 images.target (λ d. does (sizes_of (F.state flash.old).geometry) d (meant.erase slot)) result.images result.result (F.state flash.old) (F.state flash.new) }
+    ensures answers { ImagesAnswer (places_of images) 5 images.target (λ d. does (sizes_of (F.state flash.old).geometry) d (meant.erase slot)) result.images result.result (F.state flash.old) (F.state flash.new) }
+    ensures untouched { Untouches (sizes_of (F.state flash.old).geometry) (meant.erase slot) images result (F.state flash.old) (F.state flash.new) }
+    ensures mounts { MountsItsOwn (sizes_of (F.state flash.old).geometry) (meant.erase slot) images result (F.state flash.old) (F.state flash.new) }
 {
     side_laws();
     if slot == 1 {
