@@ -15,3 +15,4 @@ pub mod ServingQuietly
 pub mod ToldReplies
 pub mod ServingSettings
 pub mod ServingFiles
+pub mod Starts

@@ -1,6 +1,7 @@
 -- Requests that change the running settings or a file, served.
 use Rattle.std.proofs.Common.{◌≡◌, ℕ, Bool, true, false, not, Option, Some, None, List, [], ◌∷◌, Result, Ok, Err, refl, sym, ◌∙◌, ap, subst}
-use Rattle.std.specs.Prelude.{IfSome, IsTrue}
+use Rattle.std.specs.Prelude.{IfSome, IsSome, IsTrue, ◌↔◌, find, filter, option_map}
+use Rattle.std.specs.Str.{bytes_eq}
 use Rattle.smp_files.specs.Writing.{Responds, written_reply}
 use Rattle.smp_files.specs.declared.fault.FileFault.{FileFault}
 use Rattle.smp_flash.specs.State.{FlashState}
@@ -18,7 +19,8 @@ use Rattle.smp_model.specs.Meant.{Meant}
 use Rattle.smp_model.specs.Response.{Response, responds}
 use Rattle.smp_model.specs.Said as said
 use Rattle.smp_model.specs.Said.{Said, said_of}
-use Rattle.smp_model.specs.Settings.{is_setting_name, written_setting, deleted_setting}
+use Rattle.smp_model.specs.Named.{named}
+use Rattle.smp_model.specs.Settings.{is_setting_name, value_of, written_setting, deleted_setting}
 use Rattle.smp_model.specs.SettingsGroup.{writes_setting, deletes_setting}
 use Rattle.smp_model.specs.Steps.{Step, applied}
 use Rattle.smp_settings.specs.Saved.{SettingsSay, SettingsState, after_write, written_response, deleted_response}
@@ -79,7 +81,7 @@ delete_refused g name up a says e =
     (λ d c. subst (λ (x : Response). Quietly x d up (replied.GroupError SETTINGS_GROUP SETTING_NAME_LENGTH)) (sym (refusal d)) (record { reply = refl; standing = same_standing d; carries = c }))
   where
     refusal : (d : AbstractDevice) → deletes_setting d.running name ≡ responds (said.group_error SETTINGS_GROUP SETTING_NAME_LENGTH) []
-    refusal d = rw e is refl
+    refusal d = rw e refl
 
 delete_standing : (there : Bool) (name : List ℕ) (d : AbstractDevice) → SameStanding d (applied (deleted_response there name).steps d)
 delete_standing true name d = record { first = refl; second = refl; saved = refl; target = refl }
@@ -108,6 +110,43 @@ delete_served g name there up settings a says w e none =
     (quiet g (Ok (meant.setting_delete name)) up (up_of up.images new up.files up.counters) (delete_reply there) a refl refl refl refl (running_say up.images up.settings (deleted_setting name up.settings.running) a.bytes says)
     (λ d c. subst (λ (x : Response). Quietly x d (up_of up.images new up.files up.counters) (delete_reply there)) (sym (ap (λ (running : List Setting). deletes_setting running name) c.running ∙ w))
       (record { reply = delete_reply_is there name; standing = delete_standing there name d; carries = delete_carries there name up d none c })))
+
+-- a delete that found the name, or did not
+pub deleted_as : (g : Geometry) (name : List ℕ) (r there : Bool) (reply : Reply) (up : Up) (settings : SettingsState) (a : FlashState) → r ≡ there → reply ≡ delete_reply there → IfSome a.bytes (UpSays up.images up.settings)
+    → deletes_setting up.settings.running name ≡ deleted_response r name → settings ≡ record up.settings { running = deleted_setting name up.settings.running }
+    → (r ≡ false → deleted_setting name up.settings.running ≡ up.settings.running)
+    → Serves g (Ok (meant.setting_delete name)) up (up_of up.images settings up.files up.counters) (Ok reply) a a
+deleted_as g name r there reply up settings a e f says w s none =
+    subst (λ (x : Reply). Serves g (Ok (meant.setting_delete name)) up (up_of up.images settings up.files up.counters) (Ok x) a a) (sym f)
+    (subst (λ (b : Bool). Serves g (Ok (meant.setting_delete name)) up (up_of up.images settings up.files up.counters) (Ok (delete_reply b)) a a) e (delete_served g name r up settings a says w s none))
+
+-- Without the name nothing is deleted.
+
+without_none : (p : Setting → Bool) (xs : List Setting) → find p xs ≡ None → filter (λ x. not (p x)) xs ≡ xs
+without_none p [] e = refl
+without_none p (x ∷ xs) e = go (p x) refl
+  where
+    go : (b : Bool) → p x ≡ b → filter (λ y. not (p y)) (x ∷ xs) ≡ x ∷ xs
+    go true f = absurd (cc (sym (found f) ∙ e))
+      where
+        found : p x ≡ true → find p (x ∷ xs) ≡ Some x
+        found h = rw h refl
+    go false f = kept f (without_none p xs (rest f))
+      where
+        rest : p x ≡ false → find p xs ≡ None
+        rest h = passed h ∙ e
+          where
+            passed : p x ≡ false → find p xs ≡ find p (x ∷ xs)
+            passed k = rw k refl
+        kept : p x ≡ false → filter (λ y. not (p y)) xs ≡ xs → filter (λ y. not (p y)) (x ∷ xs) ≡ x ∷ xs
+        kept h t = rw h (ap (λ ys. x ∷ ys) t)
+
+no_value : (o : Option Setting) → (IsSome (option_map (λ s. s.val) o) → ⊥) → o ≡ None
+no_value None f = refl
+no_value (Some s) f = absurd (f tt)
+
+pub none_same : (name : List ℕ) (running : List Setting) (r : Bool) → r ≡ false → IsTrue r ↔ IsSome (value_of name running) → deleted_setting name running ≡ running
+none_same name running r e iff = without_none (λ s. bytes_eq s.name name) running (no_value (named (λ s. s.name) name running) (λ there. let t : IsTrue r = iff.1 there in absurd (cc (sym e ∙ t))))
 
 -- A part of a file.
 

@@ -1,5 +1,5 @@
 -- A request about images, served.
-use Rattle.std.proofs.Common.{◌≡◌, ℕ, ◌++◌, Option, Some, None, List, [], Result, Ok, Err, refl, sym, ◌∙◌, ap, subst}
+use Rattle.std.proofs.Common.{◌≡◌, ℕ, ◌++◌, Option, Some, None, List, [], ◌∷◌, Result, Ok, Err, refl, sym, ◌∙◌, ap, subst}
 use Rattle.std.specs.Prelude.{IfSome, OnOk, IfOk}
 use Rattle.smp_flash.specs.Area.{Told, Keeps, Clear}
 use Rattle.smp_flash.specs.Calls.{Calls}

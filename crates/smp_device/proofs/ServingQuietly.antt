@@ -25,6 +25,7 @@ use Rattle.smp_model.specs.Said.{Said, said_of}
 use Rattle.smp_model.specs.Steps.{Step, applied, side_at}
 use Rattle.smp_settings.specs.Saved.{SavedStand}
 use Rattle.smp_upload.specs.Moves.{KeepsPending}
+use Rattle.smp_upload.specs.declared.states.UploadFault.{UploadFault}
 use Rattle.smp_device.specs.Places.{Places, StandsAt, ImagesStand, places_of, place_at}
 use Rattle.smp_device.specs.Serving.{Reached, ReachedFrom, Serves, spots_for}
 use Rattle.smp_device.specs.Up.{Up, Stands, UpSays, Carries}
@@ -42,8 +43,8 @@ pub same_standing : (d : AbstractDevice) → SameStanding d d
 same_standing d = record { first = refl; second = refl; saved = refl; target = refl }
 
 -- The reply is the device's, its steps change nothing durable, and memory holds it then.
-pub record Quietly (r : Response) (d : AbstractDevice) (after : Up) (reply : Reply) : Type 0 where
-  pub reply : said_of reply ≡ r.reply
+pub record Quietly (r : Response) (d : AbstractDevice) (after : Up) (answer : Reply) : Type 0 where
+  pub reply : said_of answer ≡ r.reply
   pub standing : SameStanding d (applied r.steps d)
   pub carries : Carries after (applied r.steps d)
 
@@ -98,3 +99,10 @@ quiet g m up after reply a spots images layout counters says f =
       settings_ages = Told-same (AgesAtMost 1 (settings_of p.first)) a.bytes a.bytes (no_age p.first 1) refl;
       pending = λ i l at. Told-same (KeepsPending l) a.bytes a.bytes (λ u. record { kept = λ is. refl; still = λ is. refl }) refl;
     }
+
+pub served_as : (g : Geometry) (m : Result Meant ℕ) (up after : Up) (r s : Result Reply UploadFault) (a b : FlashState) → s ≡ r → Serves g m up after r a b → Serves g m up after s a b
+served_as g m up after r s a b e f = subst (λ (x : Result Reply UploadFault). Serves g m up after x a b) (sym e) f
+
+-- of a request by another name
+pub meant_as : (g : Geometry) (m n : Meant) (up after : Up) (r : Result Reply UploadFault) (a b : FlashState) → n ≡ m → Serves g (Ok m) up after r a b → Serves g (Ok n) up after r a b
+meant_as g m n up after r a b e f = subst (λ (x : Meant). Serves g (Ok x) up after r a b) (sym e) f

@@ -68,7 +68,7 @@ moves_at laws g p are i l at t old new moves keeps d stands =
 
 -- Both.
 
-second_steps : Laws → (d : AbstractDevice) → settle_steps_of 1 (settle_of 0 d) ≡ settle_steps_of 1 d
+pub second_steps : Laws → (d : AbstractDevice) → settle_steps_of 1 (settle_of 0 d) ≡ settle_steps_of 1 d
 second_steps laws d = ap (steps_at 1) (laws.others 0 1 (side_settle_steps d.first) d zero_one)
 
 settle_two : Laws → (d : AbstractDevice) → settle_of 1 (settle_of 0 d) ≡ settle d
@@ -189,7 +189,7 @@ ages_still g p are i j l m a b ne x y k =
     Told-map (Keeps (mount_spots l)) (AgesAtMost 0 (progress_of m)) x y (λ u v kept. ages_clear m 0 (mount_spots l) u v apart.first apart.second kept) k
 
 -- so that each image ages by its own mount alone
-ages_apart : (g : Geometry) (p : Places) → ArePlaces g p → (l : Layout) → p.second ≡ Some l → (x y z : Option (List ℕ)) → Told (AgesAtMost 2 (progress_of p.first)) x y → Told (Keeps (mount_spots p.first)) x y
+pub ages_apart : (g : Geometry) (p : Places) → ArePlaces g p → (l : Layout) → p.second ≡ Some l → (x y z : Option (List ℕ)) → Told (AgesAtMost 2 (progress_of p.first)) x y → Told (Keeps (mount_spots p.first)) x y
     → Told (AgesAtMost 2 (progress_of l)) y z → Told (Keeps (mount_spots l)) y z → AtEach (λ m. Told (AgesAtMost 2 (progress_of m)) x z) p
 ages_apart g p are l at x y z f fk h hk = go
   where

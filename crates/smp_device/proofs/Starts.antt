@@ -33,7 +33,7 @@ use Rattle.smp_device.specs.DeviceLaws.{DeviceLaws}
 use Rattle.smp_device.specs.Laws.{Laws}
 use Rattle.smp_device.specs.Places.{Places, ArePlaces, AtEach, ImagesSay, ImagesStand, place_at, places_of, second_spots, spots_of}
 use Rattle.smp_device.specs.Settling.{Settle, Settles}
-use Rattle.smp_device.specs.Starting.{MountsAll, SettleTo, WornAt, alone_images, both_images}
+use Rattle.smp_device.specs.Starting.{MountsAll, MountsBehind, SettleTo, WornAt, alone_images, both_images}
 use Rattle.smp_device.specs.declared.images.Images.{Images}
 use Rattle.smp_device.proofs.Parting.{apart_of, covers_at, ages_each, pending_each}
 use Rattle.smp_device.proofs.Lifting.{told_two}
@@ -72,9 +72,9 @@ first_lost laws g p are lost a b m =
 
 -- One image, and it is mounted.
 
-alone_say : (zero : Mounted) (x : Option (List ℕ)) → IfSome x (Says (known_mounted zero)) → IfSome x (ImagesSay (alone_images zero))
-alone_say zero None s = tt
-alone_say zero (Some u) s = record { first = s; second = tt }
+alone_say : (it : Mounted) (x : Option (List ℕ)) → IfSome x (Says (known_mounted it)) → IfSome x (ImagesSay (alone_images it))
+alone_say it None s = tt
+alone_say it (Some u) s = record { first = s; second = tt }
 
 alone_readable : (p : Places) → p.second ≡ None → (x : Option (List ℕ)) → IfSome x (SideReadable p.first) → IfSome x (λ held. AtEach (λ l. SideReadable l held) p)
 alone_readable p none None r = tt
@@ -105,18 +105,18 @@ settles_reach p a b f (Some u) (Some v) i j s = λ d stands. settle_reaches p d.
     told_at : (t : ℕ) → Settle p t u v
     told_at t = subst (λ (z : Option (List ℕ)). Told (Settle p t) z (Some v)) i (subst (λ (z : Option (List ℕ)). Told (Settle p t) a.bytes z) j (f t).does)
 
-pub alone_mounted : Laws → (g : Geometry) (p : Places) → ArePlaces g p → p.second ≡ None → (zero : Mounted) (a b : FlashState) → Mounts p.first (Ok zero) a b → MountsAll p (Ok (alone_images zero)) a b
-alone_mounted laws g p are none zero a b m =
+pub alone_mounted : Laws → (g : Geometry) (p : Places) → ArePlaces g p → p.second ≡ None → (it : Mounted) (a b : FlashState) → Mounts p.first (Ok it) a b → MountsAll p (Ok (alone_images it)) a b
+alone_mounted laws g p are none it a b m =
     let f : (t : ℕ) → Settles p t a b = λ t. settles_alone laws g p are t a b none m.done in
     record {
       calls = (f 0).calls;
       reaches = settles_reach p a b f a.bytes b.bytes refl refl (f 0).does;
       settles = f;
-      says = alone_say zero b.bytes m.says;
+      says = alone_say it b.bytes m.says;
       mounted = (tt, tt);
       readable = alone_readable p none a.bytes m.readable;
-      unformatted = λ e. absurd (cc e);
-      worn = λ e. absurd (cc e);
+      unformatted = tt;
+      worn = tt;
       ages = (f 0).ages;
       pending = (f 0).pending;
     }
@@ -130,15 +130,15 @@ readable_on : Laws → (l : Layout) (spots : List (ℕ × ℕ)) (u v : List ℕ)
 readable_on laws l spots u v apart k r = record { side = r.side; stands = laws.stand l r.side spots u v apart k r.stands }
 
 -- what is said of image 0 stays said in the mount of image 1
-says_on : Laws → (zero : Mounted) (first : Layout) (spots : List (ℕ × ℕ)) (u v : List ℕ) → (known_mounted zero).layout ≡ first → Apart first spots → Keeps spots u v → Says (known_mounted zero) u → Says (known_mounted zero) v
-says_on laws zero first spots u v e apart k s = laws.say (known_mounted zero) spots u v (subst (λ (l : Layout). Apart l spots) (sym e) apart) k s
+says_on : Laws → (it : Mounted) (first : Layout) (spots : List (ℕ × ℕ)) (u v : List ℕ) → (known_mounted it).layout ≡ first → Apart first spots → Keeps spots u v → Says (known_mounted it) u → Says (known_mounted it) v
+says_on laws it first spots u v e apart k s = laws.say (known_mounted it) spots u v (subst (λ (l : Layout). Apart l spots) (sym e) apart) k s
 
-both_say_told : Laws → (zero one : Mounted) (first l : Layout) → (known_mounted zero).layout ≡ first → Apart first (mount_spots l) → (x y : Option (List ℕ)) → IfSome x (Says (known_mounted zero)) → Told (Keeps (mount_spots l)) x y
-    → IfSome y (Says (known_mounted one)) → IfSome y (ImagesSay (both_images zero one))
-both_say_told laws zero one first l e apart None None s k t = tt
-both_say_told laws zero one first l e apart None (Some v) s k t = absurd k
-both_say_told laws zero one first l e apart (Some u) None s k t = absurd k
-both_say_told laws zero one first l e apart (Some u) (Some v) s k t = record { first = says_on laws zero first (mount_spots l) u v e apart k s; second = t }
+both_say_told : Laws → (it one : Mounted) (first l : Layout) → (known_mounted it).layout ≡ first → Apart first (mount_spots l) → (x y : Option (List ℕ)) → IfSome x (Says (known_mounted it)) → Told (Keeps (mount_spots l)) x y
+    → IfSome y (Says (known_mounted one)) → IfSome y (ImagesSay (both_images it one))
+both_say_told laws it one first l e apart None None s k t = tt
+both_say_told laws it one first l e apart None (Some v) s k t = absurd k
+both_say_told laws it one first l e apart (Some u) None s k t = absurd k
+both_say_told laws it one first l e apart (Some u) (Some v) s k t = record { first = says_on laws it first (mount_spots l) u v e apart k s; second = t }
 
 each_readable : (p : Places) (l : Layout) (u : List ℕ) → p.second ≡ Some l → SideReadable p.first u → SideReadable l u → AtEach (λ m. SideReadable m u) p
 each_readable p l u at first second = go
@@ -179,8 +179,8 @@ second_reached laws p old middle new f h = λ d stands.
     let r = h d.target e (f d.target d stands) in
     reached_behind laws p d.target d (settle_steps_of 0 d) (settle_steps_of 1 d) new (subst (λ (s : List Step). ImagesReached p d.target e s new) (second_steps laws d) r)
 
-pub second_lost : Laws → (g : Geometry) (p : Places) → ArePlaces g p → (l : Layout) → p.second ≡ Some l → (zero : Mounted) (lost : Lost) (a b c : FlashState) → Mounts p.first (Ok zero) a b → Mounts l (Err lost) b c → MountsAll p (Err lost.fault) a c
-second_lost laws g p are l at zero lost a b c m n =
+pub second_lost : Laws → (g : Geometry) (p : Places) → ArePlaces g p → (l : Layout) → p.second ≡ Some l → (it : Mounted) (lost : Lost) (a b c : FlashState) → Mounts p.first (Ok it) a b → Mounts l (Err lost) b c → MountsAll p (Err lost.fault) a c
+second_lost laws g p are l at it lost a b c m n =
     let done = m.done in
     let k = done.calls.keeps in
     let j = n.moved.calls.keeps in
@@ -201,19 +201,29 @@ second_lost laws g p are l at zero lost a b c m n =
       pending = pending_both p a.bytes b.bytes c.bytes (pending_each g p 0 p.first a.bytes b.bytes are refl done.pending k) (pending_each g p 1 l b.bytes c.bytes are at n.moved.pending j);
     }
 
-pub both_mounted : Laws → (g : Geometry) (p : Places) → ArePlaces g p → (l : Layout) → p.second ≡ Some l → (zero one : Mounted) (a b c : FlashState) → Mounts p.first (Ok zero) a b → Mounts l (Ok one) b c
-    → MountsAll p (Ok (both_images zero one)) a c
-both_mounted laws g p are l at zero one a b c m n =
+pub both_mounted : Laws → (g : Geometry) (p : Places) → ArePlaces g p → (l : Layout) → p.second ≡ Some l → (it one : Mounted) (a b c : FlashState) → Mounts p.first (Ok it) a b → Mounts l (Ok one) b c
+    → MountsAll p (Ok (both_images it one)) a c
+both_mounted laws g p are l at it one a b c m n =
     let f : (t : ℕ) → Settles p t a c = λ t. settles_both laws g p are l at t a b c m.done n.done in
     record {
       calls = (f 0).calls;
       reaches = settles_reach p a c f a.bytes c.bytes refl refl (f 0).does;
       settles = f;
-      says = both_say_told laws zero one p.first l m.layout_is (apart_of g p are 1 0 l p.first at refl one_zero) b.bytes c.bytes m.says n.done.calls.keeps n.says;
+      says = both_say_told laws it one p.first l m.layout_is (apart_of g p are 1 0 l p.first at refl one_zero) b.bytes c.bytes m.says n.done.calls.keeps n.says;
       mounted = (tt, tt);
       readable = both_readable laws p l at (apart_of g p are 0 1 p.first l refl at zero_one) a.bytes b.bytes m.readable m.done.calls.keeps n.readable;
-      unformatted = λ e. absurd (cc e);
-      worn = λ e. absurd (cc e);
+      unformatted = tt;
+      worn = tt;
       ages = (f 0).ages;
       pending = (f 0).pending;
     }
+
+-- Both ways.
+
+behind : Laws → (g : Geometry) (p : Places) → ArePlaces g p → (o : Option Layout) → p.second ≡ o → (it : Mounted) (r : Result Images UploadFault) (a b c : FlashState) → Mounts p.first (Ok it) a b → MountsBehind o it r b c → MountsAll p r a c
+behind laws g p are None at it r a b c m f = subst (λ (q : Result Images UploadFault). MountsAll p q a c) (sym f.0) (subst (λ (x : FlashState). MountsAll p (Ok (alone_images it)) a x) (sym f.1) (alone_mounted laws g p are at it a b m))
+behind laws g p are (Some l) at it (Ok images) a b c m f = subst (λ (x : Images). MountsAll p (Ok x) a c) (sym f.1.0) (both_mounted laws g p are l at it f.0 a b c m f.1.1)
+behind laws g p are (Some l) at it (Err fault) a b c m f = subst (λ (x : UploadFault). MountsAll p (Err x) a c) (sym f.1.0) (second_lost laws g p are l at it f.0 a b c m f.1.1)
+
+pub mounted_behind : Laws → (g : Geometry) (p : Places) → ArePlaces g p → (it : Mounted) (r : Result Images UploadFault) (a b c : FlashState) → Mounts p.first (Ok it) a b → MountsBehind p.second it r b c → MountsAll p r a c
+mounted_behind laws g p are it r a b c m f = behind laws g p are p.second refl it r a b c m f

@@ -1,18 +1,18 @@
 //! Packets are answered.
 
-ghost use Rattle.std.specs.Prelude.{◌≡◌, ◌+◌, ◌≤◌, [], false, length, Ok, Some, IfSome};
-ghost use Rattle.std.specs.ArrayVec.{array_vec_len};
+ghost use Rattle.std.specs.Prelude.{◌≡◌, ◌+◌, ◌≤◌, [], true, length, Ok, IfOk, IfSome};
 ghost use Rattle.smp_groups.specs.Counters.{counters_of};
 ghost use Rattle.smp_header.specs.Message.{message_of};
 ghost use Rattle.smp_model.specs.Counters.{after_reply};
-ghost use Rattle.smp_model.specs.Handled.{is_reset};
+ghost use Rattle.smp_model.specs.Handled.{is_request, is_reset};
+ghost use Rattle.smp_model.specs.FlashUse.{uses_saved};
 ghost use Rattle.smp_model.specs.Meaning.{meaning};
 ghost use Rattle.smp_model.specs.Meant.{meant_of};
 ghost use Rattle.smp_model.specs.Said.{is_error, reply_bytes, said_of};
 ghost use Rattle.smp_reply.specs.Room.{EchoFits};
-ghost use Rattle.smp_device.specs.Handling.{AnswersMeaning, AnswersRequest, Finishes, Sent, failed_said, worn_said};
+ghost use Rattle.smp_device.specs.Handling.{AnswersMeaning, AnswersRequest, Finishes, failed_said, handled_by, left_by, operation_number, worn_said};
 ghost use Rattle.smp_device.specs.Serving.{changes};
-ghost use Rattle.smp_device.specs.Telling.{Fitting, tells};
+ghost use Rattle.smp_device.specs.Telling.{Fitting};
 ghost use Rattle.smp_device.specs.Up.{IsFor, UpSays, up_of};
 
 use crate::images::{Images, Replied};
@@ -73,6 +73,7 @@ fn is_error(reply: &Reply<'_>) -> bool
 fn send(counts: &mut Counts, out: &mut PacketBuffer, packet: &Packet<'_>, reply: &Reply<'_>)
     requires empty { out.old.items ≡ [] }
     requires request { is_request (message_of packet.now) ≡ true }
+    requires version { packet.now.version ≤ 3 }
     requires fits { Fitting (said_of reply.now) }
     ensures written { out.new.items ≡ reply_bytes (message_of packet.now) (said_of reply.now) }
     ensures counted { counters_of counts.new ≡ after_reply (is_error (said_of reply.now)) (counters_of counts.old) }
@@ -150,9 +151,10 @@ fn finish(
 ) -> Finished
     requires empty { out.old.items ≡ [] }
     requires request { is_request (message_of packet.now) ≡ true }
+    requires version { packet.now.version ≤ 3 }
     requires changes { changes (meant_of request.now) ≡ true }
     requires fits { IfOk replied.result (λ reply. Fitting (said_of reply)) }
-    ensures { Finishes (message_of packet.now) (meant_of request.now) (counters_of counts.old) (counters_of counts.new) replied.entry.images replied.entry.result out.new.items result.images result.result }
+    ensures { Finishes (message_of packet.now) (meant_of request.now) (counters_of counts.old) (counters_of counts.new) replied.images replied.result out.new.items result.images result.result }
 {
     let Replied { images, result } = replied;
     let reply = match result {
@@ -211,6 +213,7 @@ fn answer_request<F: Flash>(
     requires says { IfSome (F.state flash.old).bytes (UpSays images settings.old) }
     requires empty { out.old.items ≡ [] }
     requires request { is_request (message_of packet.now) ≡ true }
+    requires version { packet.now.version ≤ 3 }
     requires room { EchoFits (meant_of request.now) }
     ensures { AnswersRequest (F.state flash.old).geometry (message_of packet.now) (meant_of request.now) (up_of images settings.old files.old (counters_of counts.old)) settings.new files.new (counters_of counts.new) out.new.items result.images result.result (F.state flash.old) (F.state flash.new) }
 {
@@ -237,6 +240,7 @@ pub fn answer_packet<F: Flash>(
     requires says { IfSome (F.state flash.old).bytes (UpSays images settings.old) }
     requires empty { out.old.items ≡ [] }
     requires request { is_request (message_of packet.now) ≡ true }
+    requires version { packet.now.version ≤ 3 }
     requires fits { length packet.now.bytes.now + HEADER ≤ LARGEST_PACKET }
     ensures { AnswersMeaning (F.state flash.old).geometry (message_of packet.now) (meaning (message_of packet.now)) (up_of images settings.old files.old (counters_of counts.old)) settings.new files.new (counters_of counts.new) out.new.items result.images result.result (F.state flash.old) (F.state flash.new) }
 {

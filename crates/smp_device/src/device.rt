@@ -1,20 +1,55 @@
 //! The device.
 
-ghost use Rattle.std.specs.Prelude.{◌≡◌, Ok, IfSome, IsSome, Some, None};
+ghost use Rattle.std.specs.Prelude.{◌≡◌, IfOk, IfSome, IsSome, Some, None, true, false};
 ghost use Rattle.smp_flash.specs.Layout.{geometry_of};
 ghost use Rattle.smp_model.specs.Settings.{stored_form};
 ghost use Rattle.smp_device.specs.Handling.{DeviceSays, Handles};
 ghost use Rattle.smp_device.specs.Showing.{shown_of};
+ghost use Rattle.smp_device.specs.Starting.{Opens, Restarts, start_fault};
 
 use crate::answering::{Down, Finished, Handled, answer_packet};
 use crate::images::Images;
 use crate::showing::{Confirmed, Shown, show};
+use crate::starting::{Begun, begin};
 use smp_files::FileTable;
-use smp_flash::{Flash, Layout};
+use smp_flash::{Flash, Layout, Operation};
 use smp_groups::Counts;
 use smp_header::{PacketBuffer, read_packet};
 use smp_settings::Settings;
+use smp_upload::UploadFault;
+use std::alloc::Global;
 use std::marker::Model;
+
+/// Why a device could not be opened.
+#[derive(Clone, Copy, Debug, PartialEq, Eq)]
+pub enum OpenFault {
+    /// There is no memory for the files.
+    OutOfMemory,
+
+    /// The flash stands for no device.
+    Unformatted,
+
+    /// This operation of the flash failed.
+    Fault(Operation),
+
+    /// The flash is off.
+    Off,
+
+    /// A mount needs more records than can be put. Nothing changed there.
+    Worn,
+}
+
+/// Why it could not be opened, where it could not be started.
+fn open_fault(fault: UploadFault) -> OpenFault
+    ensures { start_fault result ≡ Some fault }
+{
+    match fault {
+        UploadFault::Unformatted => OpenFault::Unformatted,
+        UploadFault::Fault(operation) => OpenFault::Fault(operation),
+        UploadFault::Off => OpenFault::Off,
+        UploadFault::Worn => OpenFault::Worn,
+    }
+}
 
 /// A device: the images of its flash, its settings, its files, and what it counted.
 ///
@@ -43,6 +78,67 @@ impl Model for Device {
 }
 
 impl Device {
+    /// Takes the device's memory, and starts it: the settings are read, and then each image is mounted. The first fault of these
+    /// ends it. No other call takes memory.
+    ///
+    /// A flash is `Unformatted` exactly where its bytes stand for no device.
+    pub fn open<F: Flash>(alloc: Global, flash: &mut F) -> Result<Device, OpenFault>
+        ensures opens { Opens result (F.state flash.old) (F.state flash.new) }
+        ensures says { IfOk result (λ device. IfSome (F.state flash.new).bytes (DeviceSays device)) }
+    {
+        let Ok(files) = FileTable::reserve(alloc) else {
+            return Err(OpenFault::OutOfMemory);
+        };
+        let geometry = flash.geometry();
+        let first = Layout::of(geometry);
+        let second = Layout::second(geometry);
+        match begin(&first, &second, flash) {
+            Ok(begun) => {
+                let Begun {
+                    images,
+                    settings,
+                    confirmed,
+                } = begun;
+                Ok(Device {
+                    first,
+                    second,
+                    images: Some(images),
+                    settings,
+                    files,
+                    counts: Counts::default(),
+                    confirmed,
+                })
+            }
+            Err(fault) => Err(open_fault(fault)),
+        }
+    }
+
+    /// Forgets what is not durable, and starts the device anew, as `open` does. It is down where this does not go through.
+    pub fn restart<F: Flash>(&mut self, flash: &mut F) -> Result<(), UploadFault>
+        requires sizes { geometry_of self.old.places.first ≡ (F.state flash.old).geometry }
+        ensures restarts { Restarts result self.old.places self.new (F.state flash.old) (F.state flash.new) }
+        ensures places { self.new.places ≡ self.old.places }
+        ensures says { IfSome (F.state flash.new).bytes (DeviceSays self.new) }
+    {
+        self.images = None;
+        self.files.clear();
+        self.counts = Counts::default();
+        match begin(&self.first, &self.second, flash) {
+            Ok(begun) => {
+                let Begun {
+                    images,
+                    settings,
+                    confirmed,
+                } = begun;
+                self.images = Some(images);
+                self.settings = settings;
+                self.confirmed = confirmed;
+                Ok(())
+            }
+            Err(fault) => Err(fault),
+        }
+    }
+
     /// Handles a packet that came in, while the device is up. The reply, if there is one, is put into `out` in place of what
     /// that held.
     ///

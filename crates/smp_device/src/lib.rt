@@ -9,6 +9,8 @@
 //! or the fault that broke the request off.
 #![tactic(auto)]
 
+mod answering;
+mod device;
 mod hashes;
 mod images;
 mod laws;
@@ -16,12 +18,18 @@ mod lists;
 mod serving;
 mod sets;
 mod settled;
+mod showing;
 mod side_requests;
+mod starting;
 mod telling;
 mod uploads;
 
+pub use answering::{Down, Handled};
+pub use device::{Device, OpenFault};
 pub use hashes::set;
 pub use images::{Images, Replied, SideRequest};
 pub use lists::list;
+pub use showing::Shown;
 pub use side_requests::ask_image;
+pub use smp_upload::UploadFault as StartFault;
 pub use uploads::{erase, upload};

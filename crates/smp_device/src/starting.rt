@@ -1,9 +1,11 @@
 //! A device is started.
 
-ghost use Rattle.std.specs.Prelude.{◌≡◌, Some, None, Ok, IfErr, IfOk, IfSome, OnOk};
-ghost use Rattle.smp_flash.specs.Layout.{geometry_of, image_of};
-ghost use Rattle.smp_device.specs.Places.{places_of};
-ghost use Rattle.smp_device.specs.Starting.{Starts};
+ghost use Rattle.std.specs.Prelude.{◌≡◌, IfOk, IfSome};
+ghost use Rattle.smp_flash.specs.Calls.{Calls};
+ghost use Rattle.smp_flash.specs.Layout.{geometry_of};
+ghost use Rattle.smp_flash.specs.State.{ended};
+ghost use Rattle.smp_device.specs.Places.{places_of, spots_of};
+ghost use Rattle.smp_device.specs.Starting.{AreConfirmed, MountsAll, MountsBehind, Starts};
 ghost use Rattle.smp_device.specs.Up.{AllPlaces, UpSays};
 
 use crate::images::Images;
@@ -29,6 +31,8 @@ fn mount_second<F: Flash>(
     second: &Option<Layout>,
     flash: &mut F,
 ) -> Result<Images, UploadFault>
+    requires second { IfSome second.now (λ l. geometry_of l ≡ (F.state flash.old).geometry) }
+    ensures { MountsBehind second.now zero result (F.state flash.old) (F.state flash.new) }
 {
     match second {
         None => Ok(Images {
@@ -53,7 +57,12 @@ fn mount_images<F: Flash>(
     second: &Option<Layout>,
     flash: &mut F,
 ) -> Result<Images, UploadFault>
+    requires all { AllPlaces (F.state flash.old).geometry (record { first = first.now; second = second.now }) }
+    ensures mounts { MountsAll (record { first = first.now; second = second.now }) result (F.state flash.old) (F.state flash.new) }
+    ensures places { IfOk result (λ images. places_of images ≡ record { first = first.now; second = second.now }) }
+    ensures target { IfOk result (λ images. images.target ≡ 0) }
 {
+    side_laws();
     match (Unmounted { layout: *first }).mount(flash) {
         Ok(zero) => mount_second(zero, second, flash),
         Err(lost) => Err(lost.fault),
@@ -66,6 +75,10 @@ fn confirmed_of<F: Flash>(
     second: &Option<Layout>,
     flash: &mut F,
 ) -> Result<Confirmed, CallFault>
+    requires all { AllPlaces (F.state flash.old).geometry (record { first = first.now; second = second.now }) }
+    ensures calls { Calls (spots_of (record { first = first.now; second = second.now })) (ended result) (F.state flash.old) (F.state flash.new) }
+    ensures kept { (F.state flash.new).bytes ≡ (F.state flash.old).bytes }
+    ensures confirmed { IfOk result (λ c. IfSome (F.state flash.old).bytes (AreConfirmed (record { first = first.now; second = second.now }) c)) }
 {
     let zero = is_confirmed(first, flash)?;
     let one = match second {
