@@ -183,10 +183,10 @@ part_mounts g i image len off sha part images r a b e there ne f = λ d has uses
 erase_uses : (slot : ℕ) (d : AbstractDevice) (b c : Bool) → (slot == 1) ≡ b → (slot == 3) ≡ c → is_erase_taken d slot ≡ (b || (c && has_image 1 d))
 erase_uses slot d b c e f = ap (λ (x : Bool). x || ((slot == 3) && has_image 1 d)) e ∙ ap (λ (x : Bool). b || (x && has_image 1 d)) f
 
-abbrev image_by : Bool → Bool → Option ℕ
+abbrev pub image_by : Bool → Bool → Option ℕ
 image_by one three = if one then Some 0 else if three then Some 1 else None
 
-erase_image : (t slot : ℕ) (b c : Bool) → (slot == 1) ≡ b → (slot == 3) ≡ c → image_for t (meant.erase slot) ≡ image_by b c
+pub erase_image : (t slot : ℕ) (b c : Bool) → (slot == 1) ≡ b → (slot == 3) ≡ c → image_for t (meant.erase slot) ≡ image_by b c
 erase_image t slot b c e f = λ i. image_by (e i) (f i)
 
 pub erase_zero_untouches : (sizes : Sizes) (slot : ℕ) (images : Images) (r : Replied) (a b : FlashState) → slot ≡ 1 → Untouches sizes (meant.erase slot) images r a b
