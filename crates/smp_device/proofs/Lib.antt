@@ -4,6 +4,7 @@ pub mod Falling
 pub mod Paying
 pub mod Asking
 pub mod Mounting
+pub mod Erasing
 pub mod Fields
 pub mod Settlements
 pub mod Listings

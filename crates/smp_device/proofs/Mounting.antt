@@ -1,19 +1,23 @@
 -- Which images are mounted after a request about one of them.
-use Rattle.std.proofs.Common.{◌≡◌, ℕ, zero, suc, ◌-◌, Bool, true, false, ◌&&◌, ◌||◌, not, nat_lt, ◌==◌, Option, Some, None, List, length, Ok, Err, refl, sym, ◌∙◌, ap, subst, arith, if◌then◌else◌}
+use Rattle.std.proofs.Common.{◌≡◌, ℕ, zero, suc, ◌-◌, Bool, true, false, ◌&&◌, ◌||◌, not, nat_lt, ◌==◌, Option, Some, None, List, length, Ok, Err, refl, sym, ◌∙◌, ap, subst, arith, if◌then◌else◌, [], ◌∷◌, Result}
 use Rattle.std.proofs.lemmas.Bool.Decides.{nat_tests}
-use Rattle.std.specs.Prelude.{IfErr, IsSome, is_some, option_map}
+use Rattle.std.specs.Prelude.{IfErr, IfSome, IsSome, is_some, option_map}
 use Rattle.smp_flash.specs.State.{FlashState}
 use Rattle.smp_flash.specs.declared.layout.Layout.{Layout}
 use Rattle.smp_model.specs.declared.device.AbstractDevice.{AbstractDevice}
 use Rattle.smp_model.specs.declared.device.Sizes.{Sizes}
 use Rattle.smp_model.specs.declared.reply.Reply.{Reply}
 use Rattle.smp_model.specs.Due.{image_for}
-use Rattle.smp_model.specs.FlashUse.{has_image, is_erase_taken, is_part_taken, is_start_taken, uses_images}
-use Rattle.smp_model.specs.ImageGroup.{begins_with_magic, has_wrong_size, side_of}
+use Rattle.smp_model.specs.FlashUse.{has_image, is_erase_taken, is_hash_taken, is_part_taken, is_start_taken, uses_images}
+use Rattle.smp_model.specs.ImageGroup.{begins_with_magic, has_wrong_size, lists_after, side_of}
+use Rattle.smp_model.specs.Response.{Response}
 use Rattle.smp_model.specs.Meant as meant
+use Rattle.smp_upload.specs.declared.states.UploadFault.{UploadFault}
 use Rattle.smp_side.specs.Held.{held_layout, is_mounted, is_ok}
 use Rattle.smp_side.specs.declared.held.Held.{Held}
-use Rattle.smp_device.specs.Mounts.{HasImages, held_at, Untouched, FellIn, MountsOne, MountsFor, Untouches, MountsItsOwn}
+use Rattle.smp_device.specs.Answers.{ImagesAnswer, LostOne}
+use Rattle.smp_device.specs.Mounts.{HasImages, held_at, Untouched, FellIn, MountsOne, MountsFor, Untouches, MountsItsOwn, MountsAll, MountsResult, MountsSettled, KeepsOthers, IsMountedAt, IsUnmountedAt}
+use Rattle.smp_device.specs.Settling.{Unsettled}
 use Rattle.smp_device.specs.Places.{Places, place_at, places_of}
 use Rattle.smp_device.specs.Requests.{MountsOf, SecondMounted}
 use Rattle.smp_device.specs.Uploads.{Announces}
@@ -102,6 +106,10 @@ start_refused g (Some len) sha part number f =
 true_false : (b : Bool) → b ≡ true → b ≡ false → ⊥
 true_false b e f = absurd (cc (sym e ∙ f))
 
+-- what was refused was not taken
+pub clash : (X : Type 0) (b : Bool) → b ≡ false → b ≡ true → X
+clash X b e f = absurd (true_false b f e)
+
 -- a start that announces well, and one that does not
 pub taken_untouched : (g : Geometry) (len : Option ℕ) (sha : Option (List ℕ)) (part : List ℕ) (a : Announcement) (images : Images) (r : Replied) (x y : FlashState) → Announces (slot_size g - g.page) len sha part (Ok a)
     → is_start_taken (sizes_of g) len sha part ≡ false → Untouched images r x y
@@ -110,13 +118,6 @@ taken_untouched g len sha part a images r x y f e = absurd (true_false (is_start
 pub refused_mounts : (g : Geometry) (len : Option ℕ) (sha : Option (List ℕ)) (part : List ℕ) (number : ℕ) (p : Places) (i : ℕ) (images : Images) (r : Replied) (x y : FlashState) → Announces (slot_size g - g.page) len sha part (Err number)
     → is_start_taken (sizes_of g) len sha part ≡ true → MountsOne p i images r x y
 refused_mounts g len sha part number p i images r x y f e = absurd (true_false (is_start_taken (sizes_of g) len sha part) e (start_refused g len sha part number f))
-
--- a further part
-pub right_untouched : (b : Bool) (images : Images) (r : Replied) (x y : FlashState) → b ≡ false → b ≡ true → Untouched images r x y
-right_untouched b images r x y e f = absurd (true_false b f e)
-
-pub wrong_mounts : (b : Bool) (p : Places) (i : ℕ) (images : Images) (r : Replied) (x y : FlashState) → b ≡ true → b ≡ false → MountsOne p i images r x y
-wrong_mounts b p i images r x y e f = absurd (true_false b e f)
 
 -- A part of an upload, for the image that it is for.
 
@@ -182,10 +183,10 @@ part_mounts g i image len off sha part images r a b e there ne f = λ d has uses
 erase_uses : (slot : ℕ) (d : AbstractDevice) (b c : Bool) → (slot == 1) ≡ b → (slot == 3) ≡ c → is_erase_taken d slot ≡ (b || (c && has_image 1 d))
 erase_uses slot d b c e f = ap (λ (x : Bool). x || ((slot == 3) && has_image 1 d)) e ∙ ap (λ (x : Bool). b || (x && has_image 1 d)) f
 
-abbrev image_by : Bool → Bool → Option ℕ
+abbrev pub image_by : Bool → Bool → Option ℕ
 image_by one three = if one then Some 0 else if three then Some 1 else None
 
-erase_image : (t slot : ℕ) (b c : Bool) → (slot == 1) ≡ b → (slot == 3) ≡ c → image_for t (meant.erase slot) ≡ image_by b c
+pub erase_image : (t slot : ℕ) (b c : Bool) → (slot == 1) ≡ b → (slot == 3) ≡ c → image_for t (meant.erase slot) ≡ image_by b c
 erase_image t slot b c e f = λ i. image_by (e i) (f i)
 
 pub erase_zero_untouches : (sizes : Sizes) (slot : ℕ) (images : Images) (r : Replied) (a b : FlashState) → slot ≡ 1 → Untouches sizes (meant.erase slot) images r a b
@@ -212,3 +213,90 @@ erase_one_mounts sizes slot images r a b e f = λ d has uses.
 pub erase_other_mounts : (sizes : Sizes) (slot : ℕ) (images : Images) (r : Replied) (a b : FlashState) → (slot ≡ 1 → ⊥) → (slot ≡ 3 → ⊥) → MountsItsOwn sizes (meant.erase slot) images r a b
 erase_other_mounts sizes slot images r a b one three = λ d has uses.
     absurd (true_false (is_erase_taken d slot) uses (erase_uses slot d false false (grind (arith, nat_tests, one)) (grind (arith, nat_tests, three))))
+
+-- All images.
+
+all_by : (h : Held) (o : Option Held) → MountsSettled h o true → (is_mounted h ≡ true) × IfSome o (λ k. is_mounted k ≡ true)
+all_by h None m = (m, tt)
+all_by h (Some one) m = (m.0, m.1)
+
+some_bool : (b c : Bool) → Some b ≡ Some c → b ≡ c
+some_bool b c e = cc e
+
+zero_lost : (h : Held) (o q : Option Held) → option_map held_layout o ≡ option_map held_layout q → MountsSettled h o false → is_mounted h ≡ false → option_map is_mounted q ≡ Some true → option_map is_mounted o ≡ Some true
+zero_lost h None None e m un is = absurd (cc is)
+zero_lost h None (Some k) e m un is = absurd (cc e)
+zero_lost h (Some one) q e m un is = ap Some (m ∙ ap not un)
+
+one_lost : (h : Held) (o : Option Held) → MountsSettled h o false → option_map is_mounted o ≡ Some false → is_mounted h ≡ true
+one_lost h None m un = absurd (cc un)
+one_lost h (Some one) m un = not_false (is_mounted h) (sym m ∙ some_bool (is_mounted one) false un)
+
+others_mounted : (before after : Images) → places_of after ≡ places_of before → MountsSettled after.zero after.one false → (i : ℕ) → IsUnmountedAt i after → (other : ℕ) → (i ≡ other → ⊥) → IsMountedAt other before → IsMountedAt other after
+others_mounted before after places m zero un zero ne is = absurd (ne refl)
+others_mounted before after places m zero un (suc zero) ne is = zero_lost after.zero after.one before.one (ap (λ (p : Places). p.second) places) m (some_bool (is_mounted after.zero) false un) is
+others_mounted before after places m zero un (suc (suc n)) ne is = absurd (cc is)
+others_mounted before after places m (suc zero) un zero ne is = ap Some (one_lost after.zero after.one m un)
+others_mounted before after places m (suc zero) un (suc zero) ne is = absurd (ne refl)
+others_mounted before after places m (suc zero) un (suc (suc n)) ne is = absurd (cc is)
+others_mounted before after places m (suc (suc i)) un other ne is = absurd (cc un)
+
+-- behind the mounting of all
+pub settled_mounts : (before after : Images) (r : Result Reply UploadFault) (a b : FlashState) → places_of after ≡ places_of before → MountsSettled after.zero after.one (is_ok r) → IfErr r (λ fault. LostOne (places_of before) 5 after fault a b)
+    → MountsResult (places_of before) before after r a b
+settled_mounts before after (Ok reply) a b places m f = all_by after.zero after.one m
+settled_mounts before after (Err fault) a b places m f = record { image = f.image; unmounted = f.unmounted; others = others_mounted before after places m f.image f.unmounted; fell = f.fell }
+
+others_kept : (before after : Images) → KeepsOthers before after → (i : ℕ) → IsUnmountedAt i after → (other : ℕ) → (i ≡ other → ⊥) → IsMountedAt other before → IsMountedAt other after
+others_kept before after k zero un zero ne is = absurd (ne refl)
+others_kept before after k zero un (suc zero) ne is = ap (option_map is_mounted) (k.1 (some_bool (is_mounted after.zero) false un)) ∙ is
+others_kept before after k zero un (suc (suc n)) ne is = absurd (cc is)
+others_kept before after k (suc zero) un zero ne is = ap Some (k.0 (some_bool (is_mounted before.zero) true is))
+others_kept before after k (suc zero) un (suc zero) ne is = absurd (ne refl)
+others_kept before after k (suc zero) un (suc (suc n)) ne is = absurd (cc is)
+others_kept before after k (suc (suc i)) un other ne is = absurd (cc un)
+
+-- a mount that was broken off
+pub kept_mounts : (before after : Images) (r : Result Reply UploadFault) (a b : FlashState) → is_ok r ≡ false → KeepsOthers before after → IfErr r (λ fault. LostOne (places_of before) 5 after fault a b) → MountsResult (places_of before) before after r a b
+kept_mounts before after (Ok reply) a b e k f = absurd (cc e)
+kept_mounts before after (Err fault) a b e k f = record { image = f.image; unmounted = f.unmounted; others = others_kept before after k f.image f.unmounted; fell = f.fell }
+
+-- where the mounting of all, and what came behind it, was the whole request
+pub mounts_answer : (t : ℕ) (respond : AbstractDevice → Response) (images : Images) (r : Replied) (a b : FlashState) → MountsSettled r.images.zero r.images.one (is_ok r.result) → ImagesAnswer (places_of images) 5 t respond r.images r.result a b
+    → MountsResult (places_of images) images r.images r.result a b
+mounts_answer t respond images r a b m f = settled_mounts images r.images r.result a b f.places_kept m f.lost
+
+pub mounts_broken : (t : ℕ) (images : Images) (r : Replied) (a b : FlashState) → is_ok r.result ≡ false → KeepsOthers images r.images → Unsettled (places_of images) t r a b → MountsResult (places_of images) images r.images r.result a b
+mounts_broken t images r a b e k f = kept_mounts images r.images r.result a b e k (f (lists_after [])).lost
+
+-- A hash that is asked for.
+
+hash_empty_taken : (hash : List ℕ) (confirm : Bool) → length hash ≡ 0 → is_hash_taken (Some hash) confirm ≡ confirm
+hash_empty_taken [] confirm e = refl
+hash_empty_taken (x ∷ xs) confirm e = absurd (omega arith)
+
+hash_some_taken : (hash : List ℕ) (confirm : Bool) → (length hash ≡ 0 → ⊥) → is_hash_taken (Some hash) confirm ≡ (length hash == 32)
+hash_some_taken [] confirm ne = absurd (ne refl)
+hash_some_taken (x ∷ xs) confirm ne = refl
+
+pub hash_empty_untouched : (hash : List ℕ) (confirm : Bool) (images : Images) (r : Replied) (a b : FlashState) → length hash ≡ 0 → (confirm ≡ false → Untouched images r a b) → is_hash_taken (Some hash) confirm ≡ false → Untouched images r a b
+hash_empty_untouched hash confirm images r a b e f taken = f (sym (hash_empty_taken hash confirm e) ∙ taken)
+
+pub hash_empty_mounts : (hash : List ℕ) (confirm : Bool) (images : Images) (r : Replied) (a b : FlashState) → length hash ≡ 0 → (confirm ≡ true → MountsResult (places_of images) images r.images r.result a b) → is_hash_taken (Some hash) confirm ≡ true
+    → MountsResult (places_of images) images r.images r.result a b
+hash_empty_mounts hash confirm images r a b e f taken = f (sym (hash_empty_taken hash confirm e) ∙ taken)
+
+pub hash_wrong_mounts : (hash : List ℕ) (confirm : Bool) (images : Images) (r : Replied) (a b : FlashState) → (length hash ≡ 0 → ⊥) → (length hash ≡ 32 → ⊥) → is_hash_taken (Some hash) confirm ≡ true → MountsResult (places_of images) images r.images r.result a b
+hash_wrong_mounts hash confirm images r a b ne wrong taken = absurd (true_false (is_hash_taken (Some hash) confirm) taken (hash_some_taken hash confirm ne ∙ grind (arith, nat_tests, wrong)))
+
+pub hash_right_untouched : (hash : List ℕ) (confirm : Bool) (images : Images) (r : Replied) (a b : FlashState) → (length hash ≡ 0 → ⊥) → length hash ≡ 32 → is_hash_taken (Some hash) confirm ≡ false → Untouched images r a b
+hash_right_untouched hash confirm images r a b ne right taken = absurd (true_false (is_hash_taken (Some hash) confirm) (hash_some_taken hash confirm ne ∙ grind (arith, nat_tests, right)) taken)
+
+-- The request, by the hash that it has.
+
+pub set_untouches : (sizes : Sizes) (hash known : Option (List ℕ)) (confirm : Bool) (images : Images) (r : Replied) (a b : FlashState) → hash ≡ known → (is_hash_taken known confirm ≡ false → Untouched images r a b) → Untouches sizes (meant.image_set hash confirm) images r a b
+set_untouches sizes hash known confirm images r a b e f = λ d has uses. f (ap (λ (h : Option (List ℕ)). is_hash_taken h confirm) (sym e) ∙ uses)
+
+pub set_mounts : (sizes : Sizes) (hash known : Option (List ℕ)) (confirm : Bool) (images : Images) (r : Replied) (a b : FlashState) → hash ≡ known → (is_hash_taken known confirm ≡ true → MountsResult (places_of images) images r.images r.result a b)
+    → MountsAll sizes (meant.image_set hash confirm) images r a b
+set_mounts sizes hash known confirm images r a b e f = λ d has uses. f (ap (λ (h : Option (List ℕ)). is_hash_taken h confirm) (sym e) ∙ uses)

@@ -1,10 +1,11 @@
 -- Which images are mounted after a request about them, and where the fault fell that broke it off.
-use Rattle.std.specs.Prelude.{◌≡◌, ℕ, zero, suc, true, false, Option, Some, None, IfErr, is_some, option_map}
+use Rattle.std.specs.Prelude.{◌≡◌, ℕ, zero, suc, Bool, true, false, not, Option, Some, None, Result, Ok, Err, IfErr, IfSome, is_some, option_map}
 use Rattle.smp_flash.specs.Region.{Spares}
 use Rattle.smp_flash.specs.State.{FlashState}
 use Rattle.smp_flash.specs.declared.layout.Layout.{Layout}
 use Rattle.smp_model.specs.declared.device.AbstractDevice.{AbstractDevice}
 use Rattle.smp_model.specs.declared.device.Sizes.{Sizes}
+use Rattle.smp_model.specs.declared.reply.Reply.{Reply}
 use Rattle.smp_model.specs.Due.{image_for}
 use Rattle.smp_model.specs.FlashUse.{uses_images}
 use Rattle.smp_model.specs.Meant.{Meant}
@@ -68,3 +69,33 @@ Untouches sizes m images r a b = (d : AbstractDevice) → HasImages (places_of i
 abbrev pub MountsItsOwn : Sizes → Meant → Images → Replied → FlashState → FlashState → Type 0
 MountsItsOwn sizes m images r a b = (d : AbstractDevice) → HasImages (places_of images) images.target d → uses_images sizes d m ≡ true
     → MountsFor (places_of images) (image_for images.target m) images r a b
+
+-- each image is mounted
+abbrev pub AllMounted : Images → Type 0
+AllMounted images = (is_mounted images.zero ≡ true) × IfSome images.one (λ h. is_mounted h ≡ true)
+
+-- A request about all images was broken off. One is not mounted, in whose regions the fault fell; the other one still is where it was.
+pub record LosesOne (p : Places) (before after : Images) (fault : UploadFault) (a b : FlashState) : Type 0 where
+  pub image : ℕ
+  pub unmounted : IsUnmountedAt image after
+  pub others : (other : ℕ) → (image ≡ other → ⊥) → IsMountedAt other before → IsMountedAt other after
+  pub fell : FellIn p 5 image fault a b
+
+abbrev pub MountsResult : Places → (before after : Images) → Result Reply UploadFault → FlashState → FlashState → Type 0
+MountsResult p before after (Ok reply) a b = AllMounted after
+MountsResult p before after (Err fault) a b = LosesOne p before after fault a b
+
+-- where the rules before do not refuse it, all images were mounted
+abbrev pub MountsAll : Sizes → Meant → Images → Replied → FlashState → FlashState → Type 0
+MountsAll sizes m images r a b = (d : AbstractDevice) → HasImages (places_of images) images.target d → uses_images sizes d m ≡ true
+    → MountsResult (places_of images) images r.images r.result a b
+
+-- of images that were all mounted, all are where the request was answered, and all but one where it was broken off
+abbrev pub MountsSettled : Held → Option Held → (answered : Bool) → Type 0
+MountsSettled first None answered = is_mounted first ≡ answered
+MountsSettled first (Some second) true = (is_mounted first ≡ true) × (is_mounted second ≡ true)
+MountsSettled first (Some second) false = is_mounted second ≡ not (is_mounted first)
+
+-- a mount that was broken off left the other image as it was, or mounted
+abbrev pub KeepsOthers : (before after : Images) → Type 0
+KeepsOthers before after = (is_mounted before.zero ≡ true → is_mounted after.zero ≡ true) × (is_mounted after.zero ≡ false → after.one ≡ before.one)

@@ -1,7 +1,10 @@
 -- What a request about one image is, and the device's response to it.
-use Rattle.std.specs.Prelude.{◌≡◌, ℕ, zero, suc, Bool, ◌+◌, ◌≤◌, length, List, [], Option, Some, None, option_map, Result, Ok}
+use Rattle.std.specs.Prelude.{◌≡◌, ℕ, zero, suc, Bool, ◌+◌, ◌≤◌, length, List, [], Option, Some, None, option_map, Result, Ok, IfOk, IfSome}
+use Rattle.smp_flash.specs.Area.{area, blank}
 use Rattle.smp_flash.specs.Geometry.{slot_size}
+use Rattle.smp_flash.specs.Layout.{slot_of}
 use Rattle.smp_flash.specs.declared.geometry.Geometry.{Geometry}
+use Rattle.smp_flash.specs.declared.layout.Layout.{Layout}
 use Rattle.smp_model.specs.declared.reply.Reply.{Reply}
 use Rattle.smp_model.specs.declared.reply.Reply.TheVariants as replied
 use Rattle.smp_upload.specs.declared.states.UploadFault.{UploadFault}
@@ -15,6 +18,7 @@ use Rattle.smp_model.specs.Sides.{side_settle}
 use Rattle.smp_model.specs.Steps.{Step, side_at}
 use Rattle.smp_side.specs.Held.{is_mounted, is_ok}
 use Rattle.smp_side.specs.declared.held.Held.{Held}
+use Rattle.smp_device.specs.Places.{Places, place_at}
 use Rattle.smp_device.specs.declared.images.Images.{Images}
 use Rattle.smp_device.specs.declared.images.Replied.{Replied}
 use Rattle.smp_device.specs.declared.images.SideRequest.{SideRequest}
@@ -67,3 +71,22 @@ abbrev pub MountsOf : (image : ℕ) → (before : Images) → Replied → Type 0
 MountsOf zero before r = (is_mounted r.images.zero ≡ is_ok r.result) × (r.images.one ≡ before.one)
 MountsOf (suc zero) before r = (r.images.zero ≡ before.zero) × (SecondMounted r.images.one (is_ok r.result))
 MountsOf (suc (suc n)) before r = r.images ≡ before
+
+-- An erase that was done left every byte of the secondary slot FF.
+abbrev pub IsErased : Layout → List ℕ → Type 0
+IsErased layout held = area (slot_of layout 1).at (slot_of layout 1).length held ≡ blank (slot_of layout 1).length
+
+abbrev pub ErasesSlot : Layout → Result Reply UploadFault → Option (List ℕ) → Type 0
+ErasesSlot layout r x = IfOk r (λ reply. reply ≡ replied.Empty → IfSome x (IsErased layout))
+
+abbrev pub Erases : Layout → SideRequest → Result Reply UploadFault → Option (List ℕ) → Type 0
+Erases layout (asks.Start a bytes) r x = Unit {0}
+Erases layout (asks.Part off tag bytes) r x = Unit {0}
+Erases layout asks.Erase r x = ErasesSlot layout r x
+
+abbrev pub ErasesAt : Places → (image : ℕ) → SideRequest → Result Reply UploadFault → Option (List ℕ) → Type 0
+ErasesAt p image request r x = (layout : Layout) → place_at image p ≡ Some layout → Erases layout request r x
+
+-- the slot of the image that it is for
+abbrev pub ErasesFor : Places → Option ℕ → Result Reply UploadFault → Option (List ℕ) → Type 0
+ErasesFor p image r x = IfSome image (λ i. (layout : Layout) → place_at i p ≡ Some layout → ErasesSlot layout r x)

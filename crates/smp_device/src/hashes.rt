@@ -1,15 +1,18 @@
 //! Marks and confirmations, by the hash of an image.
 
-ghost use Rattle.std.specs.Prelude.{◌≡◌, ◌∷◌, [], Err, Some, true, IfOk, IfSome, option_map};
+ghost use Rattle.std.specs.Prelude.{◌≡◌, ◌∷◌, [], Err, Some, true, false, IfOk, IfSome, option_map};
 ghost use Rattle.smp_flash.specs.Calls.{Calls};
 ghost use Rattle.smp_flash.specs.Layout.{area_spot, geometry_of, slot_of};
 ghost use Rattle.smp_flash.specs.State.{ended};
 ghost use Rattle.smp_model.specs.Does.{does};
+ghost use Rattle.smp_model.specs.FlashUse.{is_hash_taken};
 ghost use Rattle.smp_model.specs.ImageGroup.{has_hash, mark_of, sets_hash, sets_image, sets_no_hash};
 ghost use Rattle.smp_model.specs.Meant as meant;
 ghost use Rattle.smp_upload.specs.Faults.{of_call};
 ghost use Rattle.smp_upload.specs.States.{Says, known_mounted};
 ghost use Rattle.smp_device.specs.Answers.{ImagesAnswer};
+ghost use Rattle.smp_side.specs.Held.{is_ok};
+ghost use Rattle.smp_device.specs.Mounts.{MountsAll, MountsResult, MountsSettled, Untouched, Untouches};
 ghost use Rattle.smp_device.specs.Places.{ArePlaces, ImagesSay, places_of};
 ghost use Rattle.smp_device.specs.Setting.{RunsIs, acts_on};
 ghost use Rattle.smp_device.specs.Settling.{SettledSay, alone_places, alone_settled, both_places, both_settled, settled_places};
@@ -82,7 +85,8 @@ fn set_alone<F: Flash>(
 ) -> Replied
     requires places { ArePlaces (F.state flash.old).geometry (alone_places zero) }
     requires says { IfSome (F.state flash.old).bytes (SettledSay (alone_settled zero target)) }
-    ensures { ImagesAnswer (alone_places zero) 0 target (sets_hash hash.now confirm) result.images result.result (F.state flash.old) (F.state flash.new) }
+    ensures answers { ImagesAnswer (alone_places zero) 0 target (sets_hash hash.now confirm) result.images result.result (F.state flash.old) (F.state flash.new) }
+    ensures mounts { MountsSettled result.images.zero result.images.one (is_ok result.result) }
 {
     side_laws();
     sides_are_told_apart();
@@ -123,7 +127,8 @@ fn set_both<F: Flash>(
 ) -> Replied
     requires places { ArePlaces (F.state flash.old).geometry (both_places settled.zero one) }
     requires says { IfSome (F.state flash.old).bytes (SettledSay (both_settled settled.zero one settled.target)) }
-    ensures { ImagesAnswer (both_places settled.zero one) 0 settled.target (sets_hash hash.now confirm) result.images result.result (F.state flash.old) (F.state flash.new) }
+    ensures answers { ImagesAnswer (both_places settled.zero one) 0 settled.target (sets_hash hash.now confirm) result.images result.result (F.state flash.old) (F.state flash.new) }
+    ensures mounts { MountsSettled result.images.zero result.images.one (is_ok result.result) }
 {
     side_laws();
     sides_are_told_apart();
@@ -162,7 +167,8 @@ fn set_both<F: Flash>(
 fn set_settled<F: Flash>(settled: Settled, flash: &mut F, hash: &[u8], confirm: bool) -> Replied
     requires places { ArePlaces (F.state flash.old).geometry (settled_places settled) }
     requires says { IfSome (F.state flash.old).bytes (SettledSay settled) }
-    ensures { ImagesAnswer (settled_places settled) 0 settled.target (sets_hash hash.now confirm) result.images result.result (F.state flash.old) (F.state flash.new) }
+    ensures answers { ImagesAnswer (settled_places settled) 0 settled.target (sets_hash hash.now confirm) result.images result.result (F.state flash.old) (F.state flash.new) }
+    ensures mounts { MountsSettled result.images.zero result.images.one (is_ok result.result) }
 {
     let Settled { zero, one, target } = settled;
     match one {
@@ -178,7 +184,8 @@ fn set_settled<F: Flash>(settled: Settled, flash: &mut F, hash: &[u8], confirm: 
 fn confirm_settled<F: Flash>(settled: Settled, flash: &mut F) -> Replied
     requires places { ArePlaces (F.state flash.old).geometry (settled_places settled) }
     requires says { IfSome (F.state flash.old).bytes (SettledSay settled) }
-    ensures { ImagesAnswer (settled_places settled) 0 settled.target (acts_on (acts.Confirm true) 0) result.images result.result (F.state flash.old) (F.state flash.new) }
+    ensures answers { ImagesAnswer (settled_places settled) 0 settled.target (acts_on (acts.Confirm true) 0) result.images result.result (F.state flash.old) (F.state flash.new) }
+    ensures mounts { MountsSettled result.images.zero result.images.one (is_ok result.result) }
 {
     let Settled { zero, one, target } = settled;
     match one {
@@ -191,7 +198,9 @@ fn confirm_settled<F: Flash>(settled: Settled, flash: &mut F) -> Replied
 fn set_running<F: Flash>(images: Images, flash: &mut F, confirm: bool) -> Replied
     requires places { ArePlaces (F.state flash.old).geometry (places_of images) }
     requires says { IfSome (F.state flash.old).bytes (ImagesSay images) }
-    ensures { ImagesAnswer (places_of images) 5 images.target (λ d. sets_no_hash d confirm) result.images result.result (F.state flash.old) (F.state flash.new) }
+    ensures answers { ImagesAnswer (places_of images) 5 images.target (λ d. sets_no_hash d confirm) result.images result.result (F.state flash.old) (F.state flash.new) }
+    ensures untouched { confirm ≡ false → Untouched images result (F.state flash.old) (F.state flash.new) }
+    ensures mounts { confirm ≡ true → MountsResult (places_of images) images result.images result.result (F.state flash.old) (F.state flash.new) }
 {
     side_laws();
     if !confirm {
@@ -210,7 +219,9 @@ fn set_running<F: Flash>(images: Images, flash: &mut F, confirm: bool) -> Replie
 fn set_hash<F: Flash>(images: Images, flash: &mut F, hash: &[u8], confirm: bool) -> Replied
     requires places { ArePlaces (F.state flash.old).geometry (places_of images) }
     requires says { IfSome (F.state flash.old).bytes (ImagesSay images) }
-    ensures { ImagesAnswer (places_of images) 5 images.target (λ d. sets_image d (Some hash.now) confirm) result.images result.result (F.state flash.old) (F.state flash.new) }
+    ensures answers { ImagesAnswer (places_of images) 5 images.target (λ d. sets_image d (Some hash.now) confirm) result.images result.result (F.state flash.old) (F.state flash.new) }
+    ensures untouched { is_hash_taken (Some hash.now) confirm ≡ false → Untouched images result (F.state flash.old) (F.state flash.new) }
+    ensures mounts { is_hash_taken (Some hash.now) confirm ≡ true → MountsResult (places_of images) images result.images result.result (F.state flash.old) (F.state flash.new) }
 {
     side_laws();
     if hash.len() == 0 {
@@ -231,7 +242,9 @@ fn set_hash<F: Flash>(images: Images, flash: &mut F, hash: &[u8], confirm: bool)
 pub fn set<F: Flash>(images: Images, flash: &mut F, hash: Option<&[u8]>, confirm: bool) -> Replied
     requires places { ArePlaces (F.state flash.old).geometry (places_of images) }
     requires says { IfSome (F.state flash.old).bytes (ImagesSay images) }
-    ensures { ImagesAnswer (places_of images) 5 images.target (λ d. does (sizes_of (F.state flash.old).geometry) d (meant.image_set (option_map (λ h. h.now) hash.entry) confirm)) result.images result.result (F.state flash.old) (F.state flash.new) }
+    ensures answers { ImagesAnswer (places_of images) 5 images.target (λ d. does (sizes_of (F.state flash.old).geometry) d (meant.image_set (option_map (λ h. h.now) hash.entry) confirm)) result.images result.result (F.state flash.old) (F.state flash.new) }
+    ensures untouched { Untouches (sizes_of (F.state flash.old).geometry) (meant.image_set (option_map (λ h. h.now) hash.entry) confirm) images result (F.state flash.old) (F.state flash.new) }
+    ensures mounts { MountsAll (sizes_of (F.state flash.old).geometry) (meant.image_set (option_map (λ h. h.now) hash.entry) confirm) images result (F.state flash.old) (F.state flash.new) }
 {
     match hash {
         None => set_running(images, flash, confirm),

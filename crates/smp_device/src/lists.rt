@@ -5,6 +5,8 @@ ghost use Rattle.smp_model.specs.Does.{does};
 ghost use Rattle.smp_model.specs.ImageGroup.{lists_after};
 ghost use Rattle.smp_model.specs.Meant as meant;
 ghost use Rattle.smp_device.specs.Answers.{ImagesAnswer};
+ghost use Rattle.smp_side.specs.Held.{is_ok};
+ghost use Rattle.smp_device.specs.Mounts.{MountsResult, MountsSettled};
 ghost use Rattle.smp_device.specs.Places.{ArePlaces, ImagesSay, places_of};
 ghost use Rattle.smp_device.specs.Settling.{SettledSay, alone_places, alone_settled, both_places, both_settled, settled_places, unknown_at};
 ghost use Rattle.smp_device.specs.Uploads.{sizes_of};
@@ -28,7 +30,8 @@ pub fn unknown(layout: Layout) -> Held
 fn list_alone<F: Flash>(zero: Mounted, target: u32, flash: &mut F) -> Replied
     requires places { ArePlaces (F.state flash.old).geometry (alone_places zero) }
     requires says { IfSome (F.state flash.old).bytes (SettledSay (alone_settled zero target)) }
-    ensures { ImagesAnswer (alone_places zero) 0 target (lists_after []) result.images result.result (F.state flash.old) (F.state flash.new) }
+    ensures answers { ImagesAnswer (alone_places zero) 0 target (lists_after []) result.images result.result (F.state flash.old) (F.state flash.new) }
+    ensures mounts { MountsSettled result.images.zero result.images.one (is_ok result.result) }
 {
     side_laws();
     match pair(&zero, flash) {
@@ -58,7 +61,8 @@ fn list_alone<F: Flash>(zero: Mounted, target: u32, flash: &mut F) -> Replied
 fn list_both<F: Flash>(zero: Mounted, one: Mounted, target: u32, flash: &mut F) -> Replied
     requires places { ArePlaces (F.state flash.old).geometry (both_places zero one) }
     requires says { IfSome (F.state flash.old).bytes (SettledSay (both_settled zero one target)) }
-    ensures { ImagesAnswer (both_places zero one) 0 target (lists_after []) result.images result.result (F.state flash.old) (F.state flash.new) }
+    ensures answers { ImagesAnswer (both_places zero one) 0 target (lists_after []) result.images result.result (F.state flash.old) (F.state flash.new) }
+    ensures mounts { MountsSettled result.images.zero result.images.one (is_ok result.result) }
 {
     side_laws();
     let first = match pair(&zero, flash) {
@@ -102,7 +106,8 @@ fn list_both<F: Flash>(zero: Mounted, one: Mounted, target: u32, flash: &mut F) 
 pub fn list_settled<F: Flash>(settled: Settled, flash: &mut F) -> Replied
     requires places { ArePlaces (F.state flash.old).geometry (settled_places settled) }
     requires says { IfSome (F.state flash.old).bytes (SettledSay settled) }
-    ensures { ImagesAnswer (settled_places settled) 0 settled.target (lists_after []) result.images result.result (F.state flash.old) (F.state flash.new) }
+    ensures answers { ImagesAnswer (settled_places settled) 0 settled.target (lists_after []) result.images result.result (F.state flash.old) (F.state flash.new) }
+    ensures mounts { MountsSettled result.images.zero result.images.one (is_ok result.result) }
 {
     let Settled { zero, one, target } = settled;
     match one {
@@ -115,7 +120,8 @@ pub fn list_settled<F: Flash>(settled: Settled, flash: &mut F) -> Replied
 pub fn list<F: Flash>(images: Images, flash: &mut F) -> Replied
     requires places { ArePlaces (F.state flash.old).geometry (places_of images) }
     requires says { IfSome (F.state flash.old).bytes (ImagesSay images) }
-    ensures { ImagesAnswer (places_of images) 5 images.target (λ d. does (sizes_of (F.state flash.old).geometry) d meant.image_list) result.images result.result (F.state flash.old) (F.state flash.new) }
+    ensures answers { ImagesAnswer (places_of images) 5 images.target (λ d. does (sizes_of (F.state flash.old).geometry) d meant.image_list) result.images result.result (F.state flash.old) (F.state flash.new) }
+    ensures mounts { MountsResult (places_of images) images result.images result.result (F.state flash.old) (F.state flash.new) }
 {
     side_laws();
     match settle_all(images, flash) {

@@ -3,10 +3,11 @@
 ghost use Rattle.std.specs.Prelude.{◌≡◌, true, Some, IfSome};
 ghost use Rattle.smp_flash.specs.Layout.{geometry_of};
 ghost use Rattle.smp_model.specs.Said.{said_of};
-ghost use Rattle.smp_side.specs.Held.{Answers, is_mounted, response_of};
+ghost use Rattle.smp_side.specs.Held.{Answers, is_mounted, is_ok, response_of};
 ghost use Rattle.smp_side.specs.declared.held.Held.TheVariants as helds;
 ghost use Rattle.smp_upload.specs.States.{Says, known_mounted};
 ghost use Rattle.smp_device.specs.Answers.{ImagesAnswer};
+ghost use Rattle.smp_device.specs.Mounts.{MountsSettled};
 ghost use Rattle.smp_device.specs.Places.{ArePlaces};
 ghost use Rattle.smp_device.specs.Setting.{CanAct, act_steps, acts_on, is_empty};
 ghost use Rattle.smp_device.specs.Settling.{SettledSay, alone_places, alone_settled, both_places, both_settled};
@@ -68,7 +69,8 @@ pub fn act_alone<F: Flash>(zero: Mounted, target: u32, flash: &mut F, act: Act) 
     requires places { ArePlaces (F.state flash.old).geometry (alone_places zero) }
     requires says { IfSome (F.state flash.old).bytes (SettledSay (alone_settled zero target)) }
     requires can { CanAct act zero }
-    ensures { ImagesAnswer (alone_places zero) 0 target (acts_on act 0) result.images result.result (F.state flash.old) (F.state flash.new) }
+    ensures answers { ImagesAnswer (alone_places zero) 0 target (acts_on act 0) result.images result.result (F.state flash.old) (F.state flash.new) }
+    ensures mounts { MountsSettled result.images.zero result.images.one (is_ok result.result) }
 {
     side_laws();
     let handed = act_on(zero, flash, act);
@@ -124,7 +126,8 @@ pub fn act_zero<F: Flash>(
     requires places { ArePlaces (F.state flash.old).geometry (both_places zero one) }
     requires says { IfSome (F.state flash.old).bytes (SettledSay (both_settled zero one target)) }
     requires can { CanAct act zero }
-    ensures { ImagesAnswer (both_places zero one) 0 target (acts_on act 0) result.images result.result (F.state flash.old) (F.state flash.new) }
+    ensures answers { ImagesAnswer (both_places zero one) 0 target (acts_on act 0) result.images result.result (F.state flash.old) (F.state flash.new) }
+    ensures mounts { MountsSettled result.images.zero result.images.one (is_ok result.result) }
 {
     side_laws();
     let handed = act_on(zero, flash, act);
@@ -161,7 +164,8 @@ pub fn act_one<F: Flash>(
     requires places { ArePlaces (F.state flash.old).geometry (both_places zero one) }
     requires says { IfSome (F.state flash.old).bytes (SettledSay (both_settled zero one target)) }
     requires can { CanAct act one }
-    ensures { ImagesAnswer (both_places zero one) 0 target (acts_on act 1) result.images result.result (F.state flash.old) (F.state flash.new) }
+    ensures answers { ImagesAnswer (both_places zero one) 0 target (acts_on act 1) result.images result.result (F.state flash.old) (F.state flash.new) }
+    ensures mounts { MountsSettled result.images.zero result.images.one (is_ok result.result) }
 {
     side_laws();
     let handed = act_on(one, flash, act);

@@ -1,6 +1,8 @@
 //! All images of a device, mounted.
 
-ghost use Rattle.std.specs.Prelude.{◌≡◌, IfErr, IfOk, IfSome, OnOk};
+ghost use Rattle.std.specs.Prelude.{◌≡◌, false, IfErr, IfOk, IfSome, OnOk};
+ghost use Rattle.smp_side.specs.Held.{is_ok};
+ghost use Rattle.smp_device.specs.Mounts.{KeepsOthers};
 ghost use Rattle.smp_device.specs.Places.{ArePlaces, ImagesSay, places_of};
 ghost use Rattle.smp_device.specs.Settling.{SettledSay, Settles, Unsettled, alone_settled, settled_places};
 
@@ -38,6 +40,8 @@ pub fn settle_all<F: Flash>(images: Images, flash: &mut F) -> Result<Settled, Re
     ensures says { IfOk result (λ s. IfSome (F.state flash.new).bytes (SettledSay s)) }
     ensures places { IfOk result (λ s. settled_places s ≡ places_of images) }
     ensures target { IfOk result (λ s. s.target ≡ images.target) }
+    ensures failed { IfErr result (λ r. is_ok r.result ≡ false) }
+    ensures kept { IfErr result (λ r. KeepsOthers images r.images) }
     ensures unsettled { IfErr result (λ r. Unsettled (places_of images) images.target r (F.state flash.old) (F.state flash.new)) }
 {
     side_laws();

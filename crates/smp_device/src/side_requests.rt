@@ -7,7 +7,7 @@ ghost use Rattle.smp_side.specs.Held.{Answers};
 ghost use Rattle.smp_device.specs.Answers.{ImagesAnswer};
 ghost use Rattle.smp_device.specs.Mounts.{FellIn, Untouched};
 ghost use Rattle.smp_device.specs.Places.{ArePlaces, ImagesSay, place_at, places_of};
-ghost use Rattle.smp_device.specs.Requests.{IsStart, MountsOf, moved_target, responds_on, side_response};
+ghost use Rattle.smp_device.specs.Requests.{Erases, ErasesAt, IsStart, MountsOf, moved_target, responds_on, side_response};
 
 use crate::images::{Images, Replied, SideRequest};
 use crate::laws::side_laws;
@@ -22,7 +22,8 @@ fn ask_side<F: Flash>(mounted: Mounted, flash: &mut F, request: &SideRequest<'_>
     requires layout { geometry_of (known_mounted mounted).layout ≡ (F.state flash.old).geometry }
     requires says { IfSome (F.state flash.old).bytes (Says (known_mounted mounted)) }
     requires start { IsStart (geometry_of (known_mounted mounted).layout) request.now }
-    ensures { Answers (known_mounted mounted).layout 3 (side_response (geometry_of (known_mounted mounted).layout).unit request.now) result (F.state flash.old) (F.state flash.new) }
+    ensures answers { Answers (known_mounted mounted).layout 3 (side_response (geometry_of (known_mounted mounted).layout).unit request.now) result (F.state flash.old) (F.state flash.new) }
+    ensures erased { Erases (known_mounted mounted).layout request.now result.result (F.state flash.new).bytes }
 {
     match *request {
         SideRequest::Start {
@@ -60,6 +61,7 @@ fn ask_zero<F: Flash>(images: Images, flash: &mut F, request: &SideRequest<'_>) 
     ensures answers { ImagesAnswer (places_of images) 5 images.target (responds_on (F.state flash.old).geometry.unit request.now 0) result.images result.result (F.state flash.old) (F.state flash.new) }
     ensures mounts { MountsOf 0 images result }
     ensures fell { IfErr result.result (λ fault. FellIn (places_of images) 5 0 fault (F.state flash.old) (F.state flash.new)) }
+    ensures erased { ErasesAt (places_of images) 0 request.now result.result (F.state flash.new).bytes }
 {
     side_laws();
     sides_are_told_apart();
@@ -99,6 +101,7 @@ fn ask_one<F: Flash>(images: Images, flash: &mut F, request: &SideRequest<'_>) -
     ensures answers { ImagesAnswer (places_of images) 5 images.target (responds_on (F.state flash.old).geometry.unit request.now 1) result.images result.result (F.state flash.old) (F.state flash.new) }
     ensures mounts { MountsOf 1 images result }
     ensures fell { IfErr result.result (λ fault. FellIn (places_of images) 5 1 fault (F.state flash.old) (F.state flash.new)) }
+    ensures erased { ErasesAt (places_of images) 1 request.now result.result (F.state flash.new).bytes }
     ensures absent { place_at 1 (places_of images) ≡ None → Untouched images result (F.state flash.old) (F.state flash.new) }
 {
     side_laws();
@@ -165,6 +168,7 @@ pub fn ask_image<F: Flash>(
     ensures answers { ImagesAnswer (places_of images) 5 images.target (responds_on (F.state flash.old).geometry.unit request.now image) result.images result.result (F.state flash.old) (F.state flash.new) }
     ensures mounts { MountsOf image images result }
     ensures fell { IfErr result.result (λ fault. FellIn (places_of images) 5 image fault (F.state flash.old) (F.state flash.new)) }
+    ensures erased { ErasesAt (places_of images) image request.now result.result (F.state flash.new).bytes }
     ensures absent { place_at image (places_of images) ≡ None → Untouched images result (F.state flash.old) (F.state flash.new) }
 {
     if image == 0 {

@@ -5,6 +5,7 @@ ghost use Rattle.smp_flash.specs.Geometry.{slot_size, Regular, is_lawful};
 ghost use Rattle.std.specs.Prelude.{IsTrue};
 ghost use Rattle.smp_flash.specs.Layout.{geometry_of};
 ghost use Rattle.smp_model.specs.Does.{does};
+ghost use Rattle.smp_model.specs.Due.{image_for};
 ghost use Rattle.smp_model.specs.FlashUse.{is_start_taken};
 ghost use Rattle.smp_model.specs.ImageGroup.{begins_with_magic, has_wrong_size, side_of};
 ghost use Rattle.smp_model.specs.Meant as meant;
@@ -12,6 +13,7 @@ ghost use Rattle.smp_side.specs.Held.{held_layout};
 ghost use Rattle.smp_device.specs.Answers.{ImagesAnswer};
 ghost use Rattle.smp_device.specs.Mounts.{MountsItsOwn, MountsOne, Untouched, Untouches};
 ghost use Rattle.smp_device.specs.Places.{ArePlaces, ImagesSay, place_at, places_of};
+ghost use Rattle.smp_device.specs.Requests.{ErasesFor};
 ghost use Rattle.smp_device.specs.Uploads.{Announces, sizes_of};
 
 use crate::images::{Images, Replied, SideRequest};
@@ -216,6 +218,7 @@ pub fn erase<F: Flash>(images: Images, flash: &mut F, slot: u32) -> Replied
     ensures answers { ImagesAnswer (places_of images) 5 images.target (λ d. does (sizes_of (F.state flash.old).geometry) d (meant.erase slot)) result.images result.result (F.state flash.old) (F.state flash.new) }
     ensures untouched { Untouches (sizes_of (F.state flash.old).geometry) (meant.erase slot) images result (F.state flash.old) (F.state flash.new) }
     ensures mounts { MountsItsOwn (sizes_of (F.state flash.old).geometry) (meant.erase slot) images result (F.state flash.old) (F.state flash.new) }
+    ensures erased { ErasesFor (places_of images) (image_for images.target (meant.erase slot)) result.result (F.state flash.new).bytes }
 {
     side_laws();
     if slot == 1 {

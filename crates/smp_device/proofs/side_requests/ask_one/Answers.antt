@@ -4,6 +4,10 @@ use Rattle.smp_device.specs.Places.{places_of}
 use Rattle.smp_device.proofs.Asking.{asked_one, lost_one, no_image_one}
 use Rattle.smp_device.proofs.Falling.{fell_one, fell_lost_one, fell_nowhere}
 use Rattle.smp_device.proofs.Mounting.{one_untouched, held_untouched}
+use Rattle.std.proofs.Common.{ap}
+use Rattle.std.specs.Prelude.{option_map}
+use Rattle.smp_side.specs.Held.{held_layout}
+use Rattle.smp_device.proofs.Erasing.{erases_at, erases_failed, erases_nowhere}
 use Rattle.smp_device.proofs.side_requests.ask_one.Goals as goal
 
 pub returns-in-None-clause-answers : goal.returns-in-None-clause-answers
@@ -16,7 +20,7 @@ returns-in-Err-clause-answers g c =
 
 pub returns-in-Ok-clause-answers : goal.returns-in-Ok-clause-answers
 returns-in-Ok-clause-answers g c =
-    asked_one c.side_laws.ensures c.args.images c.in-Some.held c.in-Some.is c.args.request.now (known_mounted c.in-Ok.side).layout c.ask_side-handed.result c.target_after-target.result (g.F.Flash.state c.args.flash.now) (g.F.Flash.state c.mounted.new.flash) (g.F.Flash.state c.ask_side-handed.new.flash) c.requires.places c.in-Ok.ensures.layout c.target_after-target.ensures c.requires.says c.in-Ok.ensures.done c.ask_side-handed.ensures
+    asked_one c.side_laws.ensures c.args.images c.in-Some.held c.in-Some.is c.args.request.now (known_mounted c.in-Ok.side).layout c.ask_side-handed.result c.target_after-target.result (g.F.Flash.state c.args.flash.now) (g.F.Flash.state c.mounted.new.flash) (g.F.Flash.state c.ask_side-handed.new.flash) c.requires.places c.in-Ok.ensures.layout c.target_after-target.ensures c.requires.says c.in-Ok.ensures.done c.ask_side-handed.ensures.answers
 
 pub returns-in-None-clause-fell : goal.returns-in-None-clause-fell
 returns-in-None-clause-fell g c =
@@ -28,7 +32,7 @@ returns-in-Err-clause-fell g c =
 
 pub returns-in-Ok-clause-fell : goal.returns-in-Ok-clause-fell
 returns-in-Ok-clause-fell g c =
-    fell_one c.args.images c.in-Some.held c.in-Some.is c.args.request.now (known_mounted c.in-Ok.side).layout c.ask_side-handed.result (g.F.Flash.state c.args.flash.now) (g.F.Flash.state c.mounted.new.flash) (g.F.Flash.state c.ask_side-handed.new.flash) c.requires.places c.in-Ok.ensures.layout c.in-Ok.ensures.done c.ask_side-handed.ensures
+    fell_one c.args.images c.in-Some.held c.in-Some.is c.args.request.now (known_mounted c.in-Ok.side).layout c.ask_side-handed.result (g.F.Flash.state c.args.flash.now) (g.F.Flash.state c.mounted.new.flash) (g.F.Flash.state c.ask_side-handed.new.flash) c.requires.places c.in-Ok.ensures.layout c.in-Ok.ensures.done c.ask_side-handed.ensures.answers
 
 pub returns-in-None-clause-absent : goal.returns-in-None-clause-absent
 returns-in-None-clause-absent g c = λ none.
@@ -39,3 +43,12 @@ returns-in-Err-clause-absent g c = λ none. held_untouched c.args.images c.in-So
 
 pub returns-in-Ok-clause-absent : goal.returns-in-Ok-clause-absent
 returns-in-Ok-clause-absent g c = λ none. held_untouched c.args.images c.in-Some.held _ _ _ c.in-Some.is none
+
+pub returns-in-None-clause-erased : goal.returns-in-None-clause-erased
+returns-in-None-clause-erased g c = erases_nowhere (places_of c.args.images) 1 c.args.request.now c.no_image.result.result _ (ap (option_map held_layout) c.in-None.is)
+
+pub returns-in-Err-clause-erased : goal.returns-in-Err-clause-erased
+returns-in-Err-clause-erased g c = λ layout at. erases_failed layout c.args.request.now c.in-Err.fault.fault c.lost-handed.result.result _ c.lost-handed.ensures.failed
+
+pub returns-in-Ok-clause-erased : goal.returns-in-Ok-clause-erased
+returns-in-Ok-clause-erased g c = erases_at (places_of c.args.images) 1 (held_layout c.in-Some.held) (known_mounted c.in-Ok.side).layout c.args.request.now c.ask_side-handed.result.result (g.F.Flash.state c.ask_side-handed.new.flash).bytes (ap (option_map held_layout) c.in-Some.is) c.in-Ok.ensures.layout c.ask_side-handed.ensures.erased

@@ -8,6 +8,7 @@ use Rattle.smp_device.specs.Uploads.{sizes_of}
 use Rattle.smp_device.specs.declared.images.SideRequest.TheVariants as asks
 use Rattle.smp_device.proofs.Fields.{images_as, refused_here, erase_zero, erase_one, erase_other}
 use Rattle.smp_device.proofs.Mounting.{answered_untouched, mounts_one, erase_zero_untouches, erase_zero_mounts, erase_one_untouches, erase_one_mounts, erase_other_mounts}
+use Rattle.smp_device.proofs.Erasing.{erase_zero_erases, erase_one_erases, erase_other_erases}
 use Rattle.smp_device.proofs.uploads.erase.Goals as goal
 
 pub returns-then-slot-eq1-clause-answers : goal.returns-then-slot-eq1-clause-answers
@@ -47,3 +48,12 @@ returns-clause-untouched g c = λ d has uses.
 pub returns-clause-mounts : goal.returns-clause-mounts
 returns-clause-mounts g c =
     erase_other_mounts (sizes_of (g.F.Flash.state c.args.flash.now).geometry) c.args.slot c.args.images c.refused.result (g.F.Flash.state c.args.flash.now) (g.F.Flash.state c.args.flash.now) c.if-slot-eq1.false c.if-slot-eq3.false
+
+pub returns-then-slot-eq1-clause-erased : goal.returns-then-slot-eq1-clause-erased
+returns-then-slot-eq1-clause-erased g c = erase_zero_erases (places_of c.args.images) c.args.images.target c.args.slot c.ask_image.result.result (g.F.Flash.state c.ask_image.new.flash).bytes c.if-slot-eq1.true c.ask_image.ensures.erased
+
+pub returns-then-slot-eq3-clause-erased : goal.returns-then-slot-eq3-clause-erased
+returns-then-slot-eq3-clause-erased g c = erase_one_erases (places_of c.args.images) c.args.images.target c.args.slot c.ask_image-then-slot-eq3.result.result (g.F.Flash.state c.ask_image-then-slot-eq3.new.flash).bytes c.if-slot-eq3.true c.ask_image-then-slot-eq3.ensures.erased
+
+pub returns-clause-erased : goal.returns-clause-erased
+returns-clause-erased g c = erase_other_erases (places_of c.args.images) c.args.images.target c.args.slot c.refused.result.result _ c.if-slot-eq1.false c.if-slot-eq3.false

@@ -9,7 +9,7 @@ use Rattle.smp_device.specs.Requests.{responds_on}
 use Rattle.smp_device.specs.Uploads.{sizes_of}
 use Rattle.smp_device.specs.declared.images.SideRequest.TheVariants as asks
 use Rattle.smp_device.proofs.Fields.{images_as, refused_here, part_fit, part_unfit, as_number}
-use Rattle.smp_device.proofs.Mounting.{answered_untouched, mounts_one, right_untouched, wrong_mounts}
+use Rattle.smp_device.proofs.Mounting.{answered_untouched, clash, mounts_one}
 use Rattle.smp_device.proofs.uploads.upload_part.Goals as goal
 
 pub returns-in-Ok-clause-answers : goal.returns-in-Ok-clause-answers
@@ -24,7 +24,7 @@ returns-in-Err-clause-answers g c =
 
 pub returns-in-Ok-clause-untouched : goal.returns-in-Ok-clause-untouched
 returns-in-Ok-clause-untouched g c =
-    right_untouched (has_wrong_size (option_map (λ s. s.now) c.args.part.now.sha)) c.args.images c.ask_image.result (g.F.Flash.state c.args.flash.now) (g.F.Flash.state c.ask_image.new.flash) c.in-Ok.ensures.ok.0
+    clash _ (has_wrong_size (option_map (λ s. s.now) c.args.part.now.sha)) c.in-Ok.ensures.ok.0
 
 pub returns-in-Ok-clause-mounts : goal.returns-in-Ok-clause-mounts
 returns-in-Ok-clause-mounts g c = λ right.
@@ -36,4 +36,4 @@ returns-in-Err-clause-untouched g c = λ wrong.
 
 pub returns-in-Err-clause-mounts : goal.returns-in-Err-clause-mounts
 returns-in-Err-clause-mounts g c =
-    wrong_mounts (has_wrong_size (option_map (λ s. s.now) c.args.part.now.sha)) (places_of c.args.images) c.args.image c.args.images c.refused.result (g.F.Flash.state c.args.flash.now) (g.F.Flash.state c.args.flash.now) c.in-Err.ensures.err.0
+    λ right. clash _ (has_wrong_size (option_map (λ s. s.now) c.args.part.now.sha)) right c.in-Err.ensures.err.0
