@@ -17,3 +17,5 @@ pub mod ToldReplies
 pub mod ServingSettings
 pub mod ServingFiles
 pub mod Starts
+pub mod Beginnings
+pub mod Answered

@@ -122,28 +122,26 @@ deleted_as g name r there reply up settings a e f says w s none =
 
 -- Without the name nothing is deleted.
 
+found_first : (p : Setting → Bool) (x : Setting) (xs : List Setting) → p x ≡ true → find p (x ∷ xs) ≡ Some x
+found_first p x xs h = rw h refl
+
+found_behind : (p : Setting → Bool) (x : Setting) (xs : List Setting) → p x ≡ false → find p (x ∷ xs) ≡ find p xs
+found_behind p x xs h = rw h refl
+
+kept_first : (p : Setting → Bool) (x : Setting) (xs ys : List Setting) → p x ≡ false → filter (λ y. not (p y)) xs ≡ ys → filter (λ y. not (p y)) (x ∷ xs) ≡ x ∷ ys
+kept_first p x xs ys h e = rw h (ap (λ zs. x ∷ zs) e)
+
+without_step : (p : Setting → Bool) (x : Setting) (xs : List Setting) (b : Bool) → p x ≡ b → find p (x ∷ xs) ≡ None → (find p xs ≡ None → filter (λ y. not (p y)) xs ≡ xs) → filter (λ y. not (p y)) (x ∷ xs) ≡ x ∷ xs
+without_step p x xs true h e f = absurd (cc (sym (found_first p x xs h) ∙ e))
+without_step p x xs false h e f = kept_first p x xs xs h (f (sym (found_behind p x xs h) ∙ e))
+
 without_none : (p : Setting → Bool) (xs : List Setting) → find p xs ≡ None → filter (λ x. not (p x)) xs ≡ xs
 without_none p [] e = refl
-without_none p (x ∷ xs) e = go (p x) refl
-  where
-    go : (b : Bool) → p x ≡ b → filter (λ y. not (p y)) (x ∷ xs) ≡ x ∷ xs
-    go true f = absurd (cc (sym (found f) ∙ e))
-      where
-        found : p x ≡ true → find p (x ∷ xs) ≡ Some x
-        found h = rw h refl
-    go false f = kept f (without_none p xs (rest f))
-      where
-        rest : p x ≡ false → find p xs ≡ None
-        rest h = passed h ∙ e
-          where
-            passed : p x ≡ false → find p xs ≡ find p (x ∷ xs)
-            passed k = rw k refl
-        kept : p x ≡ false → filter (λ y. not (p y)) xs ≡ xs → filter (λ y. not (p y)) (x ∷ xs) ≡ x ∷ xs
-        kept h t = rw h (ap (λ ys. x ∷ ys) t)
+without_none p (x ∷ xs) e = without_step p x xs (p x) refl e (without_none p xs)
 
 no_value : (o : Option Setting) → (IsSome (option_map (λ s. s.val) o) → ⊥) → o ≡ None
 no_value None f = refl
-no_value (Some s) f = absurd (f tt)
+no_value (Some s) f = absurd (f refl)
 
 pub none_same : (name : List ℕ) (running : List Setting) (r : Bool) → r ≡ false → IsTrue r ↔ IsSome (value_of name running) → deleted_setting name running ≡ running
 none_same name running r e iff = without_none (λ s. bytes_eq s.name name) running (no_value (named (λ s. s.name) name running) (λ there. let t : IsTrue r = iff.1 there in absurd (cc (sym e ∙ t))))

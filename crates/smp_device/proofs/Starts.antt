@@ -33,7 +33,7 @@ use Rattle.smp_device.specs.DeviceLaws.{DeviceLaws}
 use Rattle.smp_device.specs.Laws.{Laws}
 use Rattle.smp_device.specs.Places.{Places, ArePlaces, AtEach, ImagesSay, ImagesStand, place_at, places_of, second_spots, spots_of}
 use Rattle.smp_device.specs.Settling.{Settle, Settles}
-use Rattle.smp_device.specs.Starting.{MountsAll, MountsBehind, SettleTo, WornAt, alone_images, both_images}
+use Rattle.smp_device.specs.Starting.{StartsImages, MountsBehind, SettleTo, WornAt, alone_images, both_images}
 use Rattle.smp_device.specs.declared.images.Images.{Images}
 use Rattle.smp_device.proofs.Parting.{apart_of, covers_at, ages_each, pending_each}
 use Rattle.smp_device.proofs.Lifting.{told_two}
@@ -47,7 +47,7 @@ first_reached : Laws → (g : Geometry) (p : Places) → ArePlaces g p → (old 
 first_reached laws g p are old new moves keeps = λ d stands.
     reached_more laws p d.target d (settle_steps_of 0 d) (settle_steps_of 1 d) new (moves_at laws g p are 0 p.first refl d.target old new moves keeps d stands)
 
-pub first_lost : Laws → (g : Geometry) (p : Places) → ArePlaces g p → (lost : Lost) (a b : FlashState) → Mounts p.first (Err lost) a b → MountsAll p (Err lost.fault) a b
+pub first_lost : Laws → (g : Geometry) (p : Places) → ArePlaces g p → (lost : Lost) (a b : FlashState) → Mounts p.first (Err lost) a b → StartsImages p (Err lost.fault) a b
 first_lost laws g p are lost a b m =
     let k = m.moved.calls.keeps in
     record {
@@ -105,7 +105,7 @@ settles_reach p a b f (Some u) (Some v) i j s = λ d stands. settle_reaches p d.
     told_at : (t : ℕ) → Settle p t u v
     told_at t = subst (λ (z : Option (List ℕ)). Told (Settle p t) z (Some v)) i (subst (λ (z : Option (List ℕ)). Told (Settle p t) a.bytes z) j (f t).does)
 
-pub alone_mounted : Laws → (g : Geometry) (p : Places) → ArePlaces g p → p.second ≡ None → (it : Mounted) (a b : FlashState) → Mounts p.first (Ok it) a b → MountsAll p (Ok (alone_images it)) a b
+pub alone_mounted : Laws → (g : Geometry) (p : Places) → ArePlaces g p → p.second ≡ None → (it : Mounted) (a b : FlashState) → Mounts p.first (Ok it) a b → StartsImages p (Ok (alone_images it)) a b
 alone_mounted laws g p are none it a b m =
     let f : (t : ℕ) → Settles p t a b = λ t. settles_alone laws g p are t a b none m.done in
     record {
@@ -179,7 +179,7 @@ second_reached laws p old middle new f h = λ d stands.
     let r = h d.target e (f d.target d stands) in
     reached_behind laws p d.target d (settle_steps_of 0 d) (settle_steps_of 1 d) new (subst (λ (s : List Step). ImagesReached p d.target e s new) (second_steps laws d) r)
 
-pub second_lost : Laws → (g : Geometry) (p : Places) → ArePlaces g p → (l : Layout) → p.second ≡ Some l → (it : Mounted) (lost : Lost) (a b c : FlashState) → Mounts p.first (Ok it) a b → Mounts l (Err lost) b c → MountsAll p (Err lost.fault) a c
+pub second_lost : Laws → (g : Geometry) (p : Places) → ArePlaces g p → (l : Layout) → p.second ≡ Some l → (it : Mounted) (lost : Lost) (a b c : FlashState) → Mounts p.first (Ok it) a b → Mounts l (Err lost) b c → StartsImages p (Err lost.fault) a c
 second_lost laws g p are l at it lost a b c m n =
     let done = m.done in
     let k = done.calls.keeps in
@@ -202,7 +202,7 @@ second_lost laws g p are l at it lost a b c m n =
     }
 
 pub both_mounted : Laws → (g : Geometry) (p : Places) → ArePlaces g p → (l : Layout) → p.second ≡ Some l → (it one : Mounted) (a b c : FlashState) → Mounts p.first (Ok it) a b → Mounts l (Ok one) b c
-    → MountsAll p (Ok (both_images it one)) a c
+    → StartsImages p (Ok (both_images it one)) a c
 both_mounted laws g p are l at it one a b c m n =
     let f : (t : ℕ) → Settles p t a c = λ t. settles_both laws g p are l at t a b c m.done n.done in
     record {
@@ -220,10 +220,25 @@ both_mounted laws g p are l at it one a b c m n =
 
 -- Both ways.
 
-behind : Laws → (g : Geometry) (p : Places) → ArePlaces g p → (o : Option Layout) → p.second ≡ o → (it : Mounted) (r : Result Images UploadFault) (a b c : FlashState) → Mounts p.first (Ok it) a b → MountsBehind o it r b c → MountsAll p r a c
-behind laws g p are None at it r a b c m f = subst (λ (q : Result Images UploadFault). MountsAll p q a c) (sym f.0) (subst (λ (x : FlashState). MountsAll p (Ok (alone_images it)) a x) (sym f.1) (alone_mounted laws g p are at it a b m))
-behind laws g p are (Some l) at it (Ok images) a b c m f = subst (λ (x : Images). MountsAll p (Ok x) a c) (sym f.1.0) (both_mounted laws g p are l at it f.0 a b c m f.1.1)
-behind laws g p are (Some l) at it (Err fault) a b c m f = subst (λ (x : UploadFault). MountsAll p (Err x) a c) (sym f.1.0) (second_lost laws g p are l at it f.0 a b c m f.1.1)
+behind : Laws → (g : Geometry) (p : Places) → ArePlaces g p → (o : Option Layout) → p.second ≡ o → (it : Mounted) (r : Result Images UploadFault) (a b c : FlashState) → Mounts p.first (Ok it) a b → MountsBehind o it r b c → StartsImages p r a c
+behind laws g p are None at it r a b c m f = subst (λ (q : Result Images UploadFault). StartsImages p q a c) (sym f.0) (subst (λ (x : FlashState). StartsImages p (Ok (alone_images it)) a x) (sym f.1) (alone_mounted laws g p are at it a b m))
+behind laws g p are (Some l) at it (Ok images) a b c m f = subst (λ (x : Images). StartsImages p (Ok x) a c) (sym f.1.0) (both_mounted laws g p are l at it f.0 a b c m f.1.1)
+behind laws g p are (Some l) at it (Err fault) a b c m f = subst (λ (x : UploadFault). StartsImages p (Err x) a c) (sym f.1.0) (second_lost laws g p are l at it f.0 a b c m f.1.1)
 
-pub mounted_behind : Laws → (g : Geometry) (p : Places) → ArePlaces g p → (it : Mounted) (r : Result Images UploadFault) (a b c : FlashState) → Mounts p.first (Ok it) a b → MountsBehind p.second it r b c → MountsAll p r a c
+pub mounted_behind : Laws → (g : Geometry) (p : Places) → ArePlaces g p → (it : Mounted) (r : Result Images UploadFault) (a b c : FlashState) → Mounts p.first (Ok it) a b → MountsBehind p.second it r b c → StartsImages p r a c
 mounted_behind laws g p are it r a b c m f = behind laws g p are p.second refl it r a b c m f
+
+pub places_behind : (first : Layout) (o : Option Layout) (it : Mounted) (r : Result Images UploadFault) (b c : FlashState) → (known_mounted it).layout ≡ first → MountsBehind o it r b c → IfOk r (λ images. places_of images ≡ record { first = first; second = o })
+places_behind first None it (Ok images) b c e f =
+    let same : images ≡ alone_images it = cc f.0 in
+    ap places_of same ∙ (λ i. record { first = e i; second = None })
+places_behind first None it (Err fault) b c e f = tt
+places_behind first (Some l) it (Ok images) b c e f = ap places_of f.1.0 ∙ (λ i. record { first = e i; second = Some (f.1.1.layout_is i) })
+places_behind first (Some l) it (Err fault) b c e f = tt
+
+
+pub target_behind : (o : Option Layout) (it : Mounted) (r : Result Images UploadFault) (b c : FlashState) → MountsBehind o it r b c → IfOk r (λ images. images.target ≡ 0)
+target_behind None it (Ok images) b c f = let same : images ≡ alone_images it = cc f.0 in ap (λ (x : Images). x.target) same
+target_behind None it (Err fault) b c f = tt
+target_behind (Some l) it (Ok images) b c f = ap (λ (x : Images). x.target) f.1.0
+target_behind (Some l) it (Err fault) b c f = tt

@@ -1,6 +1,7 @@
 -- What is answered from memory is the device's reply, and it has no steps.
-use Rattle.std.proofs.Common.{◌≡◌, ℕ, Bool, true, false, not, Option, Some, None, List, [], ◌∷◌, Result, Ok, Err, refl, sym, ◌∙◌, ap, subst, if◌then◌else◌, nat_lt}
-use Rattle.std.specs.Prelude.{IfSome, length}
+use Rattle.std.proofs.Common.{◌≡◌, ℕ, ◌+◌, ◌≤◌, ◌==◌, arith, Bool, true, false, not, Option, Some, None, List, [], ◌∷◌, Result, Ok, Err, refl, sym, ◌∙◌, ap, subst, if◌then◌else◌, nat_lt}
+use Rattle.std.proofs.lemmas.Bool.Decides.{nat_tests}
+use Rattle.std.specs.Prelude.{IfSome, IsSome, ◌↔◌, length}
 use Rattle.smp_flash.specs.State.{FlashState}
 use Rattle.smp_flash.specs.declared.geometry.Geometry.{Geometry}
 use Rattle.smp_model.specs.declared.device.AbstractDevice.{AbstractDevice}
@@ -25,7 +26,7 @@ use Rattle.smp_model.specs.declared.device.Sizes.{Sizes}
 use Rattle.smp_model.specs.declared.error.TheConstants.{SETTING_NAME_LENGTH, FILE_NAME_LENGTH, PAST_FILE_END, NO_SUCH_HASH}
 use Rattle.smp_device.specs.Places.{places_of}
 use Rattle.smp_device.specs.Serving.{Serves, spots_for}
-use Rattle.smp_device.specs.Telling.{tells}
+use Rattle.smp_device.specs.Telling.{Fitting, tells}
 use Rattle.smp_device.specs.Up.{Up, UpSays, Carries}
 use Rattle.smp_device.specs.Uploads.{sizes_of}
 use Rattle.smp_device.proofs.ServingQuietly.{Quietly, same_standing, quiet}
@@ -104,3 +105,18 @@ told_served counted g m up reply a says e =
 -- a packet that means no request
 pub error_served : (g : Geometry) (number : ℕ) (up : Up) (a : FlashState) → IfSome a.bytes (UpSays up.images up.settings) → Serves g (Err number) up up (Ok (replied.SmpError number)) a a
 error_served g number up a says = quiet g (Err number) up up (replied.SmpError number) a refl refl refl refl says (λ d c. plainly (sizes_of g) (Err number) d up (replied.SmpError number) refl c)
+
+-- A part of a file can be sent: its length is there at offset 0 alone.
+
+length_told : (off : ℕ) (f : StoredFile) → IsSome (length_at off f) ↔ (off ≡ 0)
+length_told off f = go (off == 0) refl
+  where
+    go : (t : Bool) → (off == 0) ≡ t → IsSome (if t then Some (length f.held) else None) ↔ (off ≡ 0)
+    go true e = (λ is. grind (arith, nat_tests, e), λ at. refl)
+    go false e = (λ is. absurd (cc (sym is)), λ at. absurd (grind (arith, nat_tests, e, at)))
+
+pub part_fits : (off : ℕ) (held part : List ℕ) (len : Option ℕ) → length part ≤ 1024 → len ≡ length_at off (record { name = []; announced = 0; held = held }) → Fitting (said.file_part off len part)
+part_fits off held part len le e = record {
+  room = omega arith;
+  sendable = subst (λ (o : Option ℕ). IsSome o ↔ (off ≡ 0)) (sym e) (length_told off (record { name = []; announced = 0; held = held }));
+}

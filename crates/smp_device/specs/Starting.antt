@@ -96,7 +96,7 @@ pub record AreConfirmed (p : Places) (c : Confirmed) (bytes : List ℕ) : Type 0
 abbrev pub SettleTo : Places → List ℕ → List ℕ → Type 0
 SettleTo p old new = (d : AbstractDevice) → ImagesStand p d.target d old → ImagesReached p d.target d (settle_steps d) new
 
-pub record MountsAll (p : Places) (result : Result Images UploadFault) (a b : FlashState) : Type 0 where
+pub record StartsImages (p : Places) (result : Result Images UploadFault) (a b : FlashState) : Type 0 where
   pub calls : Calls (spots_of p) (result_end result) a b
   pub reaches : Told (SettleTo p) a.bytes b.bytes
   pub settles : OnOk result ((t : ℕ) → Settles p t a b)

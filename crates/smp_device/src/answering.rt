@@ -12,12 +12,12 @@ ghost use Rattle.smp_model.specs.Said.{is_error, reply_bytes, said_of};
 ghost use Rattle.smp_reply.specs.Room.{EchoFits};
 ghost use Rattle.smp_device.specs.Handling.{AnswersMeaning, AnswersRequest, Finishes, failed_said, handled_by, left_by, operation_number, worn_said};
 ghost use Rattle.smp_device.specs.Serving.{changes};
-ghost use Rattle.smp_device.specs.Telling.{Fitting};
+ghost use Rattle.smp_device.specs.Telling.{Fitting, Tells, tells};
 ghost use Rattle.smp_device.specs.Up.{IsFor, UpSays, up_of};
 
 use crate::images::{Images, Replied};
 use crate::serving::serve;
-use crate::telling::tell;
+use crate::telling::{file_hash, file_length, read_file, read_setting};
 use smp_files::FileTable;
 use smp_flash::{Flash, Operation};
 use smp_groups::Counts;
@@ -181,6 +181,54 @@ fn finish(
     }
 }
 
+/// Answers a request that changes nothing: false exactly for one that may change something. An echo has room in a packet.
+fn tell(
+    settings: &Settings,
+    files: &FileTable,
+    counts: &mut Counts,
+    out: &mut PacketBuffer,
+    packet: &Packet<'_>,
+    request: &Request<'_>,
+) -> bool
+    requires empty { out.old.items ≡ [] }
+    requires request { is_request (message_of packet.now) ≡ true }
+    requires version { packet.now.version ≤ 3 }
+    requires room { EchoFits (meant_of request.now) }
+    ensures { Tells result (tells settings.now.running files.now (counters_of counts.old) (meant_of request.now)) (message_of packet.now) (counters_of counts.old) (counters_of counts.new) out.old.items out.new.items }
+{
+    match request {
+        Request::SettingRead { name, max_size } => {
+            let reply = read_setting(settings, name, *max_size);
+            send(counts, out, packet, &reply);
+        }
+        Request::FileRead { name, off } => {
+            let reply = read_file(files, name, *off);
+            send(counts, out, packet, &reply);
+        }
+        Request::FileStatus { name } => {
+            let reply = file_length(files, name);
+            send(counts, out, packet, &reply);
+        }
+        Request::FileHash {
+            name,
+            kind,
+            off,
+            len,
+        } => {
+            let reply = file_hash(files, name, *kind, *off, *len);
+            send(counts, out, packet, &reply);
+        }
+        Request::FileTypes => send(counts, out, packet, &Reply::FileTypes),
+        Request::Commit => send(counts, out, packet, &Reply::Empty),
+        Request::FileClose => send(counts, out, packet, &Reply::Empty),
+        _ => match counts.answer(request) {
+            Some(reply) => send(counts, out, packet, &reply),
+            None => return false,
+        },
+    }
+    true
+}
+
 /// After a reply from memory: the device is down where it was to a reset.
 fn told(images: Images, resets: bool) -> Finished
     ensures images { result.images ≡ left_by resets images }
@@ -218,8 +266,7 @@ fn answer_request<F: Flash>(
     ensures { AnswersRequest (F.state flash.old).geometry (message_of packet.now) (meant_of request.now) (up_of images settings.old files.old (counters_of counts.old)) settings.new files.new (counters_of counts.new) out.new.items result.images result.result (F.state flash.old) (F.state flash.new) }
 {
     counters_are_answered();
-    if let Some(reply) = tell(settings, files, counts, request) {
-        send(counts, out, packet, &reply);
+    if tell(settings, files, counts, out, packet, request) {
         return told(images, is_reset(request));
     }
     let replied = serve(images, settings, files, flash, request);

@@ -1,6 +1,6 @@
 //! Requests that may change the device: its images, its settings, or a file.
 
-ghost use Rattle.std.specs.Prelude.{◌≡◌, List, Ok, true, IfSome, option_map};
+ghost use Rattle.std.specs.Prelude.{◌≡◌, List, Ok, true, IfOk, IfSome, option_map};
 ghost use Rattle.smp_flash.specs.State.{FlashState};
 ghost use Rattle.smp_flash.specs.declared.geometry.Geometry.{Geometry as Sizes};
 ghost use Rattle.smp_files.specs.Writing.{written_reply};
@@ -58,7 +58,8 @@ fn bank_reply(answer: Result<(), BankFault>) -> Result<Reply<'static>, UploadFau
 fn load<F: Flash>(images: Images, settings: &mut Settings, flash: &mut F) -> Replied
     requires regions { IsFor (F.state flash.old).geometry images settings.old }
     requires says { IfSome (F.state flash.old).bytes (UpSays images settings.old) }
-    ensures { (files : List Stored) (counters : Counters) → Serves (F.state flash.old).geometry (Ok meant.load) (up_of images settings.old files counters) (up_of result.images settings.new files counters) result.result (F.state flash.old) (F.state flash.new) }
+    ensures serves { (files : List Stored) (counters : Counters) → Serves (F.state flash.old).geometry (Ok meant.load) (up_of images settings.old files counters) (up_of result.images settings.new files counters) result.result (F.state flash.old) (F.state flash.new) }
+    ensures fits { IfOk result.result (λ reply. Fitting (said_of reply)) }
 {
     device_laws();
     let answer = settings.load(flash);
@@ -72,7 +73,8 @@ fn load<F: Flash>(images: Images, settings: &mut Settings, flash: &mut F) -> Rep
 fn save<F: Flash>(images: Images, settings: &mut Settings, flash: &mut F) -> Replied
     requires regions { IsFor (F.state flash.old).geometry images settings.old }
     requires says { IfSome (F.state flash.old).bytes (UpSays images settings.old) }
-    ensures { (files : List Stored) (counters : Counters) → Serves (F.state flash.old).geometry (Ok meant.save) (up_of images settings.old files counters) (up_of result.images settings.new files counters) result.result (F.state flash.old) (F.state flash.new) }
+    ensures serves { (files : List Stored) (counters : Counters) → Serves (F.state flash.old).geometry (Ok meant.save) (up_of images settings.old files counters) (up_of result.images settings.new files counters) result.result (F.state flash.old) (F.state flash.new) }
+    ensures fits { IfOk result.result (λ reply. Fitting (said_of reply)) }
 {
     device_laws();
     let answer = settings.save(flash);
@@ -94,7 +96,8 @@ fn setting_error(number: u32) -> Reply<'static>
 
 /// The answer to a write that ended so.
 fn setting_reply(answer: Result<(), SettingFault>) -> Reply<'static>
-    ensures { result ≡ setting_reply answer }
+    ensures reply { result ≡ setting_reply answer }
+    ensures fits { Fitting (said_of result) }
 {
     match answer {
         Ok(()) => Reply::Empty,
@@ -106,8 +109,9 @@ fn setting_reply(answer: Result<(), SettingFault>) -> Reply<'static>
 
 /// A running setting is written.
 fn write_setting(images: Images, settings: &mut Settings, name: &str, val: &[u8]) -> Replied
-    ensures { (g : Sizes) (files : List Stored) (counters : Counters) (a : FlashState) → IfSome a.bytes (UpSays images settings.old)
+    ensures serves { (g : Sizes) (files : List Stored) (counters : Counters) (a : FlashState) → IfSome a.bytes (UpSays images settings.old)
         → Serves g (Ok (meant.setting_write name.now val.now)) (up_of images settings.old files counters) (up_of result.images settings.new files counters) result.result a a }
+    ensures fits { IfOk result.result (λ reply. Fitting (said_of reply)) }
 {
     let answer = settings.write(name, val);
     Replied {
@@ -125,8 +129,9 @@ fn is_setting_name(name: &str) -> bool
 
 /// A running setting is deleted.
 fn delete_setting(images: Images, settings: &mut Settings, name: &str) -> Replied
-    ensures { (g : Sizes) (files : List Stored) (counters : Counters) (a : FlashState) → IfSome a.bytes (UpSays images settings.old)
+    ensures serves { (g : Sizes) (files : List Stored) (counters : Counters) (a : FlashState) → IfSome a.bytes (UpSays images settings.old)
         → Serves g (Ok (meant.setting_delete name.now)) (up_of images settings.old files counters) (up_of result.images settings.new files counters) result.result a a }
+    ensures fits { IfOk result.result (λ reply. Fitting (said_of reply)) }
 {
     if !is_setting_name(name) {
         return Replied {
@@ -181,8 +186,9 @@ fn write_file(
     len: Option<u32>,
     bytes: &[u8],
 ) -> Replied
-    ensures { (g : Sizes) (settings : SettingsState) (counters : Counters) (a : FlashState) → IfSome a.bytes (UpSays images settings)
+    ensures serves { (g : Sizes) (settings : SettingsState) (counters : Counters) (a : FlashState) → IfSome a.bytes (UpSays images settings)
         → Serves g (Ok (meant.file_write off bytes.now len name.now)) (up_of images settings files.old counters) (up_of result.images settings files.new counters) result.result a a }
+    ensures fits { IfOk result.result (λ reply. Fitting (said_of reply)) }
 {
     let answer = files.write(name, off, len, bytes);
     Replied {
@@ -195,7 +201,8 @@ fn write_file(
 fn serve_list<F: Flash>(images: Images, settings: &Settings, flash: &mut F) -> Replied
     requires regions { IsFor (F.state flash.old).geometry images settings.now }
     requires says { IfSome (F.state flash.old).bytes (UpSays images settings.now) }
-    ensures { (files : List Stored) (counters : Counters) → Serves (F.state flash.old).geometry (Ok meant.image_list) (up_of images settings.now files counters) (up_of result.images settings.now files counters) result.result (F.state flash.old) (F.state flash.new) }
+    ensures serves { (files : List Stored) (counters : Counters) → Serves (F.state flash.old).geometry (Ok meant.image_list) (up_of images settings.now files counters) (up_of result.images settings.now files counters) result.result (F.state flash.old) (F.state flash.new) }
+    ensures fits { IfOk result.result (λ reply. Fitting (said_of reply)) }
 {
     device_laws();
     let _settings = settings;
@@ -212,7 +219,8 @@ fn serve_set<F: Flash>(
 ) -> Replied
     requires regions { IsFor (F.state flash.old).geometry images settings.now }
     requires says { IfSome (F.state flash.old).bytes (UpSays images settings.now) }
-    ensures { (files : List Stored) (counters : Counters) → Serves (F.state flash.old).geometry (Ok (meant.image_set (option_map (λ h. h.now) hash.entry) confirm)) (up_of images settings.now files counters) (up_of result.images settings.now files counters) result.result (F.state flash.old) (F.state flash.new) }
+    ensures serves { (files : List Stored) (counters : Counters) → Serves (F.state flash.old).geometry (Ok (meant.image_set (option_map (λ h. h.now) hash.entry) confirm)) (up_of images settings.now files counters) (up_of result.images settings.now files counters) result.result (F.state flash.old) (F.state flash.new) }
+    ensures fits { IfOk result.result (λ reply. Fitting (said_of reply)) }
 {
     device_laws();
     let _settings = settings;
@@ -228,7 +236,8 @@ fn serve_upload<F: Flash>(
 ) -> Replied
     requires regions { IsFor (F.state flash.old).geometry images settings.now }
     requires says { IfSome (F.state flash.old).bytes (UpSays images settings.now) }
-    ensures { (files : List Stored) (counters : Counters) → Serves (F.state flash.old).geometry (Ok (meant.upload part.now.image part.now.len part.now.off (option_map (λ s. s.now) part.now.sha) part.now.bytes.now)) (up_of images settings.now files counters) (up_of result.images settings.now files counters) result.result (F.state flash.old) (F.state flash.new) }
+    ensures serves { (files : List Stored) (counters : Counters) → Serves (F.state flash.old).geometry (Ok (meant.upload part.now.image part.now.len part.now.off (option_map (λ s. s.now) part.now.sha) part.now.bytes.now)) (up_of images settings.now files counters) (up_of result.images settings.now files counters) result.result (F.state flash.old) (F.state flash.new) }
+    ensures fits { IfOk result.result (λ reply. Fitting (said_of reply)) }
 {
     device_laws();
     let _settings = settings;
@@ -239,7 +248,8 @@ fn serve_upload<F: Flash>(
 fn serve_erase<F: Flash>(images: Images, settings: &Settings, flash: &mut F, slot: u32) -> Replied
     requires regions { IsFor (F.state flash.old).geometry images settings.now }
     requires says { IfSome (F.state flash.old).bytes (UpSays images settings.now) }
-    ensures { (files : List Stored) (counters : Counters) → Serves (F.state flash.old).geometry (Ok (meant.erase slot)) (up_of images settings.now files counters) (up_of result.images settings.now files counters) result.result (F.state flash.old) (F.state flash.new) }
+    ensures serves { (files : List Stored) (counters : Counters) → Serves (F.state flash.old).geometry (Ok (meant.erase slot)) (up_of images settings.now files counters) (up_of result.images settings.now files counters) result.result (F.state flash.old) (F.state flash.new) }
+    ensures fits { IfOk result.result (λ reply. Fitting (said_of reply)) }
 {
     device_laws();
     let _settings = settings;
@@ -258,7 +268,8 @@ pub fn serve<F: Flash>(
     requires regions { IsFor (F.state flash.old).geometry images settings.old }
     requires says { IfSome (F.state flash.old).bytes (UpSays images settings.old) }
     requires changes { changes (meant_of request.now) ≡ true }
-    ensures { (counters : Counters) → Serves (F.state flash.old).geometry (Ok (meant_of request.now)) (up_of images settings.old files.old counters) (up_of result.images settings.new files.new counters) result.result (F.state flash.old) (F.state flash.new) }
+    ensures serves { (counters : Counters) → Serves (F.state flash.old).geometry (Ok (meant_of request.now)) (up_of images settings.old files.old counters) (up_of result.images settings.new files.new counters) result.result (F.state flash.old) (F.state flash.new) }
+    ensures fits { IfOk result.result (λ reply. Fitting (said_of reply)) }
 {
     match request {
         Request::ImageList => serve_list(images, settings, flash),

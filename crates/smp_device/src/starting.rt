@@ -5,7 +5,7 @@ ghost use Rattle.smp_flash.specs.Calls.{Calls};
 ghost use Rattle.smp_flash.specs.Layout.{geometry_of};
 ghost use Rattle.smp_flash.specs.State.{ended};
 ghost use Rattle.smp_device.specs.Places.{places_of, spots_of};
-ghost use Rattle.smp_device.specs.Starting.{AreConfirmed, MountsAll, MountsBehind, Starts};
+ghost use Rattle.smp_device.specs.Starting.{AreConfirmed, StartsImages, MountsBehind, Starts};
 ghost use Rattle.smp_device.specs.Up.{AllPlaces, UpSays};
 
 use crate::images::Images;
@@ -58,7 +58,7 @@ fn mount_images<F: Flash>(
     flash: &mut F,
 ) -> Result<Images, UploadFault>
     requires all { AllPlaces (F.state flash.old).geometry (record { first = first.now; second = second.now }) }
-    ensures mounts { MountsAll (record { first = first.now; second = second.now }) result (F.state flash.old) (F.state flash.new) }
+    ensures mounts { StartsImages (record { first = first.now; second = second.now }) result (F.state flash.old) (F.state flash.new) }
     ensures places { IfOk result (λ images. places_of images ≡ record { first = first.now; second = second.now }) }
     ensures target { IfOk result (λ images. images.target ≡ 0) }
 {
@@ -107,7 +107,12 @@ pub fn begin<F: Flash>(
         Ok(settings) => settings,
         Err(fault) => return Err(of_bank(fault)),
     };
-    let images = mount_images(first, second, flash)?;
+    // The form that it lends is that of what is saved.
+    let _form = settings.saved_form();
+    let images = match mount_images(first, second, flash) {
+        Ok(images) => images,
+        Err(fault) => return Err(fault),
+    };
     match confirmed_of(first, second, flash) {
         Ok(confirmed) => Ok(Begun {
             images,

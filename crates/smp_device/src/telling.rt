@@ -1,26 +1,22 @@
 //! Requests that are answered from memory, and change nothing.
 
-ghost use Rattle.std.specs.Prelude.{◌≡◌, ◌≤◌, drop, take, length, option_map, IfSome};
+ghost use Rattle.std.specs.Prelude.{◌≡◌, ◌≤◌, drop, take, length, option_map};
 ghost use Rattle.sha2.specs.Sha256.{sha256};
-ghost use Rattle.smp_groups.specs.Counters.{counters_of};
 ghost use Rattle.smp_model.specs.declared.device.StoredFile.{StoredFile as Stored};
 ghost use Rattle.smp_model.specs.FileGroup.{bytes_from, hashes_file, hashes_held, is_sha256, length_at, reads_file, reads_held, refuses_file, tells_length};
 ghost use Rattle.smp_model.specs.Files.{is_file_name};
-ghost use Rattle.smp_model.specs.Meant.{meant_of};
 ghost use Rattle.smp_model.specs.Said.{said_of};
 ghost use Rattle.smp_model.specs.Settings.{is_setting_name};
 ghost use Rattle.smp_model.specs.SettingsGroup.{at_most, reads_setting, refuses_setting};
-ghost use Rattle.smp_reply.specs.Room.{EchoFits};
-ghost use Rattle.smp_device.specs.Telling.{Fitting, tells};
+ghost use Rattle.smp_device.specs.Telling.{Fitting};
 
 use sha2::{Digest, Sha256};
 use smp_files::FileTable;
-use smp_groups::Counts;
 use smp_model::error::{
     FILE_GROUP, FILE_NAME_LENGTH, NO_SUCH_FILE, NO_SUCH_HASH, NO_SUCH_SETTING, PAST_FILE_END,
     SETTINGS_GROUP, SETTING_NAME_LENGTH,
 };
-use smp_model::{Reply, Request};
+use smp_model::Reply;
 use smp_settings::Settings;
 
 /// The most bytes of a file that are read at once.
@@ -83,7 +79,7 @@ fn from(bytes: &[u8], off: u32) -> &[u8]
 }
 
 /// The value of a setting, or its first bytes.
-fn read_setting<'a>(settings: &'a Settings, name: &str, size: Option<u32>) -> Reply<'a>
+pub fn read_setting<'a>(settings: &'a Settings, name: &str, size: Option<u32>) -> Reply<'a>
     ensures reply { said_of result ≡ (reads_setting settings.now.running name.now size).reply }
     ensures fits { Fitting (said_of result) }
 {
@@ -136,7 +132,7 @@ fn part_of(off: u32, held: &[u8]) -> Reply<'_>
 }
 
 /// The bytes of the file of a name from an offset on.
-fn read_file<'a>(files: &'a FileTable, name: &str, off: u32) -> Reply<'a>
+pub fn read_file<'a>(files: &'a FileTable, name: &str, off: u32) -> Reply<'a>
     ensures reply { said_of result ≡ (reads_file files.now off name.now).reply }
     ensures fits { Fitting (said_of result) }
 {
@@ -150,7 +146,7 @@ fn read_file<'a>(files: &'a FileTable, name: &str, off: u32) -> Reply<'a>
 }
 
 /// How many bytes the file of a name holds.
-fn file_length<'a>(files: &FileTable, name: &str) -> Reply<'a>
+pub fn file_length<'a>(files: &FileTable, name: &str) -> Reply<'a>
     ensures reply { said_of result ≡ (tells_length files.now name.now).reply }
     ensures fits { Fitting (said_of result) }
 {
@@ -206,7 +202,7 @@ fn hash_of<'a>(kind: Option<&str>, off: u32, len: Option<u32>, held: &[u8]) -> R
 }
 
 /// The SHA-256 of bytes of the file of a name.
-fn file_hash<'a>(
+pub fn file_hash<'a>(
     files: &FileTable,
     name: &str,
     kind: Option<&str>,
@@ -222,32 +218,5 @@ fn file_hash<'a>(
     match files.read(name) {
         None => refused_file(NO_SUCH_FILE),
         Some(held) => hash_of(kind, off, len, held),
-    }
-}
-
-/// The reply to a request that changes nothing; none exactly to one that may change something. An echo has room in a packet.
-pub fn tell<'a>(
-    settings: &'a Settings,
-    files: &'a FileTable,
-    counts: &Counts,
-    request: &Request<'a>,
-) -> Option<Reply<'a>>
-    requires { EchoFits (meant_of request.now) }
-    ensures reply { option_map said_of result ≡ tells settings.now.running files.now (counters_of counts.now) (meant_of request.now) }
-    ensures fits { IfSome result (λ reply. Fitting (said_of reply)) }
-{
-    match request {
-        Request::SettingRead { name, max_size } => Some(read_setting(settings, name, *max_size)),
-        Request::Commit | Request::FileClose => Some(Reply::Empty),
-        Request::FileRead { name, off } => Some(read_file(files, name, *off)),
-        Request::FileStatus { name } => Some(file_length(files, name)),
-        Request::FileHash {
-            name,
-            kind,
-            off,
-            len,
-        } => Some(file_hash(files, name, *kind, *off, *len)),
-        Request::FileTypes => Some(Reply::FileTypes),
-        _ => counts.answer(request),
     }
 }
