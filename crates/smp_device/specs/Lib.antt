@@ -6,4 +6,5 @@ pub mod Uploads
 pub mod Settling
 pub mod Setting
 pub mod Mounts
+pub mod Asked
 pub mod Goings
