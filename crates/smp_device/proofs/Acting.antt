@@ -1,6 +1,6 @@
 -- An act on the side of an image, and the list after it.
-use Rattle.std.proofs.Common.{◌≡◌, ℕ, true, false, Option, Some, None, List, [], Result, Ok, Err, refl, sym, ◌∙◌, ap, subst, arith}
-use Rattle.std.specs.Prelude.{IfErr, IfSome, OnOk, IfOk}
+use Rattle.std.proofs.Common.{◌≡◌, ℕ, true, false, Option, Some, None, List, [], Result, Ok, Err, refl, sym, ◌∙◌, ap, subst, arith, Bool, not}
+use Rattle.std.specs.Prelude.{IfSome, OnOk, IfOk, option_map}
 use Rattle.smp_flash.specs.Area.{Told, Keeps}
 use Rattle.smp_flash.specs.Calls.{Calls}
 use Rattle.smp_flash.specs.Layout.{image_of}
@@ -23,17 +23,18 @@ use Rattle.smp_upload.specs.Moves.{Moves, Does, Done, mount_spots}
 use Rattle.smp_upload.specs.Bytes.{Apart, SideStands}
 use Rattle.smp_upload.specs.declared.states.UploadFault.{UploadFault}
 use Rattle.smp_upload.proofs.Composing.{shows_stands}
-use Rattle.smp_side.specs.Held.{Answers, held_layout, HeldSays, ResultCaused, Tells, response_of, result_end, steps_by}
+use Rattle.smp_side.specs.Held.{Answers, held_layout, HeldSays, ResultCaused, Tells, response_of, result_end, steps_by, is_mounted, is_ok}
 use Rattle.smp_side.specs.declared.held.Handed.{Handed}
-use Rattle.smp_device.specs.Answers.{ImagesAnswer, ImagesReached, ImagesMove, ImagesDo, ImagesPay, ImagesTell, LostOne, ResultCausedIn}
+use Rattle.smp_device.specs.Answers.{ImagesAnswer, ImagesReached, ImagesMove, ImagesDo, ImagesPay, ImagesTell, ResultCausedIn}
 use Rattle.smp_device.specs.Goings.{AreCounted}
 use Rattle.smp_device.specs.Laws.{Laws}
-use Rattle.smp_device.specs.Mounts.{held_at}
+use Rattle.smp_device.specs.Mounts.{MountsSettled, held_at}
 use Rattle.smp_device.specs.Places.{Places, ArePlaces, place_at, spots_of, ImagesStand, places_of, ImagesSay}
-use Rattle.smp_device.specs.Setting.{act_steps, acts_of, acts_on, is_empty}
+use Rattle.smp_device.specs.Setting.{act_steps, acts_of, acts_on, is_done, is_empty}
 use Rattle.smp_device.specs.declared.images.Images.{Images}
 use Rattle.smp_device.specs.declared.images.Replied.{Replied}
-use Rattle.smp_device.specs.Settling.{SettledSay, alone_places, both_places, both_settled}
+use Rattle.smp_device.specs.Settling.{SettledSay, both_places, both_settled, settled_places}
+use Rattle.smp_device.specs.declared.settled.Settled.{Settled}
 use Rattle.smp_device.specs.declared.sets.Act.{Act}
 use Rattle.smp_upload.specs.States.{known_mounted, Says}
 use Rattle.smp_upload.specs.declared.states.Mounted.{Mounted}
@@ -42,9 +43,10 @@ use Rattle.smp_side.specs.declared.held.Held.TheVariants as helds
 use Rattle.smp_device.proofs.Lifting.{side_here, stands_with, steps_target, with_found, with_other, with_target, told_two, caused_one}
 use Rattle.smp_device.proofs.Asking.{one_zero, zero_one}
 use Rattle.smp_device.proofs.Falling.{fell_by, lost_at, lost_behind}
-use Rattle.smp_device.proofs.Paying.{counts_side, image_is, pays_before, pays_side}
+use Rattle.smp_device.proofs.Paying.{counts_side, image_is, pays_before, pays_side, ok_map}
 use Rattle.smp_device.proofs.Parting.{apart_of, covers_at, ages_each, pending_each}
 use Rattle.smp_device.proofs.Settlements.{ages_both, append_none, pending_both, result_before, reached_behind}
+use Rattle.smp_device.proofs.Listings.{both_some}
 
 -- The response to an act, of a side and of the device.
 
@@ -115,49 +117,31 @@ pays_act g p are i l at t act a b done = pays_side p t i l (λ d. (acts_on act i
 
 -- The act was refused, or broken off.
 
-abbrev AnswerParts : Places → (n t : ℕ) → (AbstractDevice → Response) → Result Reply UploadFault → FlashState → FlashState → Type 0
-AnswerParts p n t respond r a b = (images : Images) → places_of images ≡ p → images.target ≡ t → IfSome b.bytes (ImagesSay images) → ImagesAnswer p n t respond images r a b
+stopped_said : (p : Places) (t i : ℕ) (l : Layout) (act : Act) (r : Result Reply UploadFault) (x : Option (List ℕ)) → place_at i p ≡ Some l → is_done r ≡ false → IfOk r (Tells l (acting act) x) → IfOk r (ImagesTell p t (acts_on act i) x)
+stopped_said p t i l act (Ok reply) x at e f = refusal_told p t i l act reply x at e f
+stopped_said p t i l act (Err fault) x at e f = tt
 
-pub act_refused : Laws → (g : Geometry) (p : Places) → ArePlaces g p → (i : ℕ) (l : Layout) → place_at i p ≡ Some l → (t : ℕ) (act : Act) (reply : Reply) (handed : Handed) (a b : FlashState)
-    → handed.result ≡ Ok reply → is_empty (said_of reply) ≡ false → Answers l 0 (acting act) handed a b → AnswerParts p 0 t (acts_on act i) (Ok reply) a b
-act_refused laws g p are i l at t act reply handed a b is e f = λ images places target says.
+pub act_stopped : Laws → (g : Geometry) (p : Places) → ArePlaces g p → (i : ℕ) (l : Layout) → place_at i p ≡ Some l → (t : ℕ) (act : Act) (handed : Handed) (a b : FlashState) → is_done handed.result ≡ false → Answers l 0 (acting act) handed a b
+    → (images : Images) → held_at i images ≡ Some handed.held → places_of images ≡ p → images.target ≡ t → IfSome b.bytes (ImagesSay images) → ImagesAnswer p 0 t (acts_on act i) images handed.result a b
+act_stopped laws g p are i l at t act handed a b stop f images held places target says =
     let keeps = f.moved.calls.keeps in
-    let done : Done l (mount_spots l) 0 (steps_by (acting act)) a b = subst (λ (r : Result Reply UploadFault). OnOk r (Done l (mount_spots l) 0 (steps_by (acting act)) a b)) is f.done in
-    let told : Tells l (acting act) a.bytes reply = subst (λ (r : Result Reply UploadFault). IfOk r (Tells l (acting act) a.bytes)) is f.said in
+    let r = handed.result in
+    let done = Done l (mount_spots l) 0 (steps_by (acting act)) a b in
     record {
-      calls = Calls-wider (spots_of p) (mount_spots l) Went a b (covers_at p i l at) done.calls;
+      calls = Calls-wider (spots_of p) (mount_spots l) (result_end r) a b (covers_at p i l at) f.moved.calls;
       moves = subst (λ (u : ℕ). Told (ImagesMove p t u (acts_on act i)) a.bytes b.bytes) (sym target)
           (told_two (Moves l (steps_by (acting act))) (Keeps (mount_spots l)) (ImagesMove p t t (acts_on act i)) a.bytes b.bytes (λ u v. act_moves laws g p are i l at t act u v) f.moved.moves keeps);
-      done = subst (λ (u : ℕ). Told (ImagesDo p t u (acts_on act i)) a.bytes b.bytes) (sym target)
-          (told_two (Does l (steps_by (acting act))) (Keeps (mount_spots l)) (ImagesDo p t t (acts_on act i)) a.bytes b.bytes (λ u v. act_does laws g p are i l at t act u v) done.does keeps);
-      said = refusal_told p t i l act reply a.bytes at e told;
+      done = subst (λ (u : ℕ). OnOk r (Told (ImagesDo p t u (acts_on act i)) a.bytes b.bytes)) (sym target)
+          (ok_map done (Told (ImagesDo p t t (acts_on act i)) a.bytes b.bytes) r
+          (λ k. told_two (Does l (steps_by (acting act))) (Keeps (mount_spots l)) (ImagesDo p t t (acts_on act i)) a.bytes b.bytes (λ u v. act_does laws g p are i l at t act u v) k.does keeps) f.done);
+      said = stopped_said p t i l act r a.bytes at stop f.said;
       says = says;
       places_kept = places;
       ages = ages_each g p i l 0 a.bytes b.bytes are at f.moved.ages keeps;
       pending = pending_each g p i l a.bytes b.bytes are at f.moved.pending keeps;
-      caused = tt;
-      pays = pays_act g p are i l at t act a b done;
-      lost = tt;
-    }
-
-pub act_broken : Laws → (g : Geometry) (p : Places) → ArePlaces g p → (i : ℕ) (l : Layout) → place_at i p ≡ Some l → (t : ℕ) (act : Act) (fault : UploadFault) (handed : Handed) (a b : FlashState)
-    → handed.result ≡ Err fault → Answers l 0 (acting act) handed a b → (images : Images) → held_at i images ≡ Some handed.held → places_of images ≡ p → images.target ≡ t → IfSome b.bytes (ImagesSay images) → ImagesAnswer p 0 t (acts_on act i) images (Err fault) a b
-act_broken laws g p are i l at t act fault handed a b is f = λ images held places target says.
-    let keeps = f.moved.calls.keeps in
-    record {
-      calls = subst (λ (r : Result Reply UploadFault). Calls (spots_of p) (result_end r) a b) is (Calls-wider (spots_of p) (mount_spots l) (result_end handed.result) a b (covers_at p i l at) f.moved.calls);
-      moves = subst (λ (u : ℕ). Told (ImagesMove p t u (acts_on act i)) a.bytes b.bytes) (sym target)
-          (told_two (Moves l (steps_by (acting act))) (Keeps (mount_spots l)) (ImagesMove p t t (acts_on act i)) a.bytes b.bytes (λ u v. act_moves laws g p are i l at t act u v) f.moved.moves keeps);
-      done = tt;
-      said = tt;
-      says = says;
-      places_kept = places;
-      ages = ages_each g p i l 0 a.bytes b.bytes are at f.moved.ages keeps;
-      pending = pending_each g p i l a.bytes b.bytes are at f.moved.pending keeps;
-      caused = result_caused p i l 0 (Err fault) a.bytes at (subst (λ (r : Result Reply UploadFault). ResultCaused l 0 r a.bytes) is f.caused);
-      pays = tt;
-      lost = subst (λ (r : Result Reply UploadFault). IfErr r (λ fault. LostOne p 0 images fault a b)) is
-          (lost_at p 0 i images handed.held handed.result a b held f.mounted (fell_by p 0 i l handed.result a b at f.moved.calls f.caused));
+      caused = result_caused p i l 0 r a.bytes at f.caused;
+      pays = ok_map done (ImagesPay p t (acts_on act i) a b) r (pays_act g p are i l at t act a b) f.done;
+      lost = lost_at p 0 i images handed.held r a b held f.mounted (fell_by p 0 i l r a b at f.moved.calls f.caused);
     }
 
 -- It was done, and the list was read.
@@ -251,138 +235,121 @@ act_listed laws g p are i l at t act reply handed images r a b c is e f list =
 pub acted_as : (layout : Layout) (act known : Act) (handed : Handed) (a b : FlashState) → act ≡ known → Answers layout 0 (acting known) handed a b → Answers layout 0 (acting act) handed a b
 acted_as layout act known handed a b e f = subst (λ (x : Act). Answers layout 0 (acting x) handed a b) (sym e) f
 
--- The images behind an act: of one image, and of the first and the second of two.
+-- The images behind an act.
 
-unknown_first : (handed : Handed) (l : Layout) (o : Option Layout) → held_layout handed.held ≡ l → ◌≡◌ {A = Places} (record { first = held_layout handed.held; second = o }) (record { first = l; second = o })
-unknown_first handed l o e = λ i. record { first = e i; second = o }
+pub record IsDone (r : Result Reply UploadFault) : Type 0 where
+  pub reply : Reply
+  pub is : r ≡ Ok reply
+  pub empty : is_empty (said_of reply) ≡ true
 
-both_some : (P Q R : List ℕ → Type 0) (x : Option (List ℕ)) → ((u : List ℕ) → P u → Q u → R u) → IfSome x P → IfSome x Q → IfSome x R
-both_some P Q R None step p q = tt
-both_some P Q R (Some u) step p q = step u p q
+done_reply : (r : Result Reply UploadFault) → is_done r ≡ true → IsDone r
+done_reply (Ok reply) e = record { reply = reply; is = refl; empty = e }
+done_reply (Err fault) e = absurd (cc e)
 
-pub alone_refused : Laws → (m : Mounted) (t : ℕ) (act : Act) (reply : Reply) (handed : Handed) (a b : FlashState) → ArePlaces a.geometry (alone_places m) → handed.result ≡ Ok reply → is_empty (said_of reply) ≡ false
-    → Answers (known_mounted m).layout 0 (acting act) handed a b
-    → ImagesAnswer (alone_places m) 0 t (acts_on act 0) (record { zero = handed.held; one = None; target = t }) (Ok reply) a b
-alone_refused laws m t act reply handed a b are is e f =
-    let l = (known_mounted m).layout in
-    act_refused laws a.geometry (alone_places m) are 0 l refl t act reply handed a b is e f (record { zero = handed.held; one = None; target = t })
-    (unknown_first handed l None f.layout_kept) refl
-    (both_some (HeldSays handed.held) (HeldSays handed.held) (ImagesSay (record { zero = handed.held; one = None; target = t })) b.bytes (λ u s s2. record { first = s; second = tt }) f.says f.says)
-
-pub alone_broken : Laws → (m : Mounted) (t : ℕ) (act : Act) (fault : UploadFault) (handed : Handed) (a b : FlashState) → ArePlaces a.geometry (alone_places m) → handed.result ≡ Err fault
-    → Answers (known_mounted m).layout 0 (acting act) handed a b
-    → ImagesAnswer (alone_places m) 0 t (acts_on act 0) (record { zero = handed.held; one = None; target = t }) (Err fault) a b
-alone_broken laws m t act fault handed a b are is f =
-    let l = (known_mounted m).layout in
-    act_broken laws a.geometry (alone_places m) are 0 l refl t act fault handed a b is f (record { zero = handed.held; one = None; target = t }) refl
-    (unknown_first handed l None f.layout_kept) refl
-    (both_some (HeldSays handed.held) (HeldSays handed.held) (ImagesSay (record { zero = handed.held; one = None; target = t })) b.bytes (λ u s s2. record { first = s; second = tt }) f.says f.says)
-
-pub alone_listed : Laws → (m n : Mounted) (t : ℕ) (act : Act) (reply : Reply) (handed : Handed) (r : Replied) (a b c : FlashState) → ArePlaces a.geometry (alone_places m) → handed.held ≡ helds.Mounted n → handed.result ≡ Ok reply → is_empty (said_of reply) ≡ true
-    → Answers (known_mounted m).layout 0 (acting act) handed a b → ImagesAnswer (alone_places n) 0 t (lists_after []) r.images r.result b c
-    → ImagesAnswer (alone_places m) 0 t (acts_on act 0) r.images r.result a c
-alone_listed laws m n t act reply handed r a b c are held is e f list =
-    let l = (known_mounted m).layout in
-    let same : (known_mounted n).layout ≡ l = ap held_layout (sym held) ∙ f.layout_kept in
-    let here : ImagesAnswer (alone_places m) 0 t (lists_after []) r.images r.result b c =
-    subst (λ (k : Layout). ImagesAnswer (record { first = k; second = None }) 0 t (lists_after []) r.images r.result b c) same list in
-    act_listed laws a.geometry (alone_places m) are 0 l refl t act reply handed r.images r.result a b c is e f here
-
--- Of two images.
-
-told_other : Laws → (m : Mounted) (spots : List (ℕ × ℕ)) (x y : Option (List ℕ)) → Apart (known_mounted m).layout spots → IfSome x (Says (known_mounted m)) → Told (Keeps spots) x y → IfSome y (Says (known_mounted m))
-told_other laws m spots None None apart s k = tt
-told_other laws m spots None (Some v) apart s k = absurd k
-told_other laws m spots (Some u) None apart s k = tt
-told_other laws m spots (Some u) (Some v) apart s k = laws.say (known_mounted m) spots u v apart k s
-
-first_of : (m n : Mounted) (t : ℕ) (x : Option (List ℕ)) → IfSome x (SettledSay (both_settled m n t)) → IfSome x (Says (known_mounted m))
-first_of m n t None s = tt
-first_of m n t (Some u) s = s.first
-
-second_of : (m n : Mounted) (t : ℕ) (x : Option (List ℕ)) → IfSome x (SettledSay (both_settled m n t)) → IfSome x (Says (known_mounted n))
-second_of m n t None s = tt
-second_of m n t (Some u) s = s.second
-
--- the image that is not acted on says what it said
-second_kept : Laws → (m n : Mounted) (t : ℕ) (act : Act) (handed : Handed) (a b : FlashState) → ArePlaces a.geometry (both_places m n) → IfSome a.bytes (SettledSay (both_settled m n t)) → Answers (known_mounted m).layout 0 (acting act) handed a b → IfSome b.bytes (Says (known_mounted n))
-second_kept laws m n t act handed a b are says f =
-    told_other laws n (mount_spots (known_mounted m).layout) a.bytes b.bytes (apart_of a.geometry (both_places m n) are 0 1 (known_mounted m).layout (known_mounted n).layout refl refl zero_one) (second_of m n t a.bytes says) f.moved.calls.keeps
-
-first_kept : Laws → (m n : Mounted) (t : ℕ) (act : Act) (handed : Handed) (a b : FlashState) → ArePlaces a.geometry (both_places m n) → IfSome a.bytes (SettledSay (both_settled m n t)) → Answers (known_mounted n).layout 0 (acting act) handed a b → IfSome b.bytes (Says (known_mounted m))
-first_kept laws m n t act handed a b are says f =
-    told_other laws m (mount_spots (known_mounted n).layout) a.bytes b.bytes (apart_of a.geometry (both_places m n) are 1 0 (known_mounted n).layout (known_mounted m).layout refl refl one_zero) (first_of m n t a.bytes says) f.moved.calls.keeps
-
-zero_images : (m n : Mounted) (t : ℕ) (handed : Handed) → held_layout handed.held ≡ (known_mounted m).layout → places_of (record { zero = handed.held; one = Some (helds.Mounted n); target = t }) ≡ both_places m n
-zero_images m n t handed e = λ i. record { first = e i; second = Some (known_mounted n).layout }
-
-one_images : (m n : Mounted) (t : ℕ) (handed : Handed) → held_layout handed.held ≡ (known_mounted n).layout → places_of (record { zero = helds.Mounted m; one = Some handed.held; target = t }) ≡ both_places m n
-one_images m n t handed e = λ i. record { first = (known_mounted m).layout; second = Some (e i) }
-
--- what is answered, with the images as a term of the code
-as_images : (p : Places) (n t : ℕ) (respond : AbstractDevice → Response) (images known : Images) (r : Result Reply UploadFault) (a b : FlashState) → images ≡ known → ImagesAnswer p n t respond known r a b → ImagesAnswer p n t respond images r a b
-as_images p n t respond images known r a b e f = subst (λ (x : Images). ImagesAnswer p n t respond x r a b) (sym e) f
-
-pub zero_refused : Laws → (m n : Mounted) (t : ℕ) (act : Act) (reply : Reply) (handed : Handed) (images : Images) (a b : FlashState) → ArePlaces a.geometry (both_places m n) → IfSome a.bytes (SettledSay (both_settled m n t)) → handed.result ≡ Ok reply → is_empty (said_of reply) ≡ false
-    → images ≡ record { zero = handed.held; one = Some (helds.Mounted n); target = t } → Answers (known_mounted m).layout 0 (acting act) handed a b → ImagesAnswer (both_places m n) 0 t (acts_on act 0) images (Ok reply) a b
-zero_refused laws m n t act reply handed images a b are says is e eq f =
-    let known : Images = record { zero = handed.held; one = Some (helds.Mounted n); target = t } in
-    as_images (both_places m n) 0 t (acts_on act 0) images known (Ok reply) a b eq
-    (act_refused laws a.geometry (both_places m n) are 0 (known_mounted m).layout refl t act reply handed a b is e f known (zero_images m n t handed f.layout_kept) refl
-    (both_some (HeldSays handed.held) (Says (known_mounted n)) (ImagesSay known) b.bytes (λ u p q. record { first = p; second = q }) f.says (second_kept laws m n t act handed a b are says f)))
-
-pub zero_broken : Laws → (m n : Mounted) (t : ℕ) (act : Act) (fault : UploadFault) (handed : Handed) (images : Images) (a b : FlashState) → ArePlaces a.geometry (both_places m n) → IfSome a.bytes (SettledSay (both_settled m n t)) → handed.result ≡ Err fault
-    → images ≡ record { zero = handed.held; one = Some (helds.Mounted n); target = t } → Answers (known_mounted m).layout 0 (acting act) handed a b → ImagesAnswer (both_places m n) 0 t (acts_on act 0) images (Err fault) a b
-zero_broken laws m n t act fault handed images a b are says is eq f =
-    let known : Images = record { zero = handed.held; one = Some (helds.Mounted n); target = t } in
-    as_images (both_places m n) 0 t (acts_on act 0) images known (Err fault) a b eq
-    (act_broken laws a.geometry (both_places m n) are 0 (known_mounted m).layout refl t act fault handed a b is f known refl (zero_images m n t handed f.layout_kept) refl
-    (both_some (HeldSays handed.held) (Says (known_mounted n)) (ImagesSay known) b.bytes (λ u p q. record { first = p; second = q }) f.says (second_kept laws m n t act handed a b are says f)))
-
-pub one_refused : Laws → (m n : Mounted) (t : ℕ) (act : Act) (reply : Reply) (handed : Handed) (images : Images) (a b : FlashState) → ArePlaces a.geometry (both_places m n) → IfSome a.bytes (SettledSay (both_settled m n t)) → handed.result ≡ Ok reply → is_empty (said_of reply) ≡ false
-    → images ≡ record { zero = helds.Mounted m; one = Some handed.held; target = t } → Answers (known_mounted n).layout 0 (acting act) handed a b → ImagesAnswer (both_places m n) 0 t (acts_on act 1) images (Ok reply) a b
-one_refused laws m n t act reply handed images a b are says is e eq f =
-    let known : Images = record { zero = helds.Mounted m; one = Some handed.held; target = t } in
-    as_images (both_places m n) 0 t (acts_on act 1) images known (Ok reply) a b eq
-    (act_refused laws a.geometry (both_places m n) are 1 (known_mounted n).layout refl t act reply handed a b is e f known (one_images m n t handed f.layout_kept) refl
-    (both_some (HeldSays handed.held) (Says (known_mounted m)) (ImagesSay known) b.bytes (λ u p q. record { first = q; second = p }) f.says (first_kept laws m n t act handed a b are says f)))
-
-pub one_broken : Laws → (m n : Mounted) (t : ℕ) (act : Act) (fault : UploadFault) (handed : Handed) (images : Images) (a b : FlashState) → ArePlaces a.geometry (both_places m n) → IfSome a.bytes (SettledSay (both_settled m n t)) → handed.result ≡ Err fault
-    → images ≡ record { zero = helds.Mounted m; one = Some handed.held; target = t } → Answers (known_mounted n).layout 0 (acting act) handed a b → ImagesAnswer (both_places m n) 0 t (acts_on act 1) images (Err fault) a b
-one_broken laws m n t act fault handed images a b are says is eq f =
-    let known : Images = record { zero = helds.Mounted m; one = Some handed.held; target = t } in
-    as_images (both_places m n) 0 t (acts_on act 1) images known (Err fault) a b eq
-    (act_broken laws a.geometry (both_places m n) are 1 (known_mounted n).layout refl t act fault handed a b is f known refl (one_images m n t handed f.layout_kept) refl
-    (both_some (HeldSays handed.held) (Says (known_mounted m)) (ImagesSay known) b.bytes (λ u p q. record { first = q; second = p }) f.says (first_kept laws m n t act handed a b are says f)))
+pub done_mounted : (r : Result Reply UploadFault) (b : Bool) → b ≡ is_ok r → is_done r ≡ true → b ≡ true
+done_mounted (Ok reply) b e f = e
+done_mounted (Err fault) b e f = absurd (cc f)
 
 held_as : (handed : Handed) (k : Mounted) (bytes : List ℕ) → handed.held ≡ helds.Mounted k → HeldSays handed.held bytes → Says (known_mounted k) bytes
 held_as handed k bytes e s = subst (λ (h : Held). HeldSays h bytes) e s
 
--- what the list is read over
-pub zero_settled : Laws → (m n k : Mounted) (t : ℕ) (act : Act) (handed : Handed) (a b : FlashState) → ArePlaces a.geometry (both_places m n) → IfSome a.bytes (SettledSay (both_settled m n t)) → handed.held ≡ helds.Mounted k
-    → Answers (known_mounted m).layout 0 (acting act) handed a b → IfSome b.bytes (SettledSay (both_settled k n t))
-zero_settled laws m n k t act handed a b are says held f =
-    both_some (HeldSays handed.held) (Says (known_mounted n)) (SettledSay (both_settled k n t)) b.bytes (λ u p q. record { first = held_as handed k u held p; second = q }) f.says (second_kept laws m n t act handed a b are says f)
+-- Of image 0.
 
-pub one_settled : Laws → (m n k : Mounted) (t : ℕ) (act : Act) (handed : Handed) (a b : FlashState) → ArePlaces a.geometry (both_places m n) → IfSome a.bytes (SettledSay (both_settled m n t)) → handed.held ≡ helds.Mounted k
+held_layouts : (o : Option Mounted) → option_map held_layout (option_map helds.Mounted o) ≡ option_map (λ m. (known_mounted m).layout) o
+held_layouts None = refl
+held_layouts (Some m) = refl
+
+held_says : (o : Option Mounted) (u : List ℕ) → IfSome o (λ m. Says (known_mounted m) u) → IfSome (option_map helds.Mounted o) (λ h. HeldSays h u)
+held_says None u s = tt
+held_says (Some m) u s = s
+
+-- the image beside it says what it said
+beside_kept : Laws → (o : Option Mounted) (spots : List (ℕ × ℕ)) (u v : List ℕ) → ((l : Layout) → option_map (λ m. (known_mounted m).layout) o ≡ Some l → Apart l spots) → Keeps spots u v → IfSome o (λ m. Says (known_mounted m) u) → IfSome o (λ m. Says (known_mounted m) v)
+beside_kept laws None spots u v apart k s = tt
+beside_kept laws (Some m) spots u v apart k s = laws.say (known_mounted m) spots u v (apart (known_mounted m).layout refl) k s
+
+told_beside : Laws → (s : Settled) (spots : List (ℕ × ℕ)) (x y : Option (List ℕ)) → ((l : Layout) → (settled_places s).second ≡ Some l → Apart l spots) → IfSome x (SettledSay s) → Told (Keeps spots) x y → IfSome y (λ u. IfSome s.one (λ m. Says (known_mounted m) u))
+told_beside laws s spots None None apart says k = tt
+told_beside laws s spots None (Some v) apart says k = absurd k
+told_beside laws s spots (Some u) None apart says k = tt
+told_beside laws s spots (Some u) (Some v) apart says k = beside_kept laws s.one spots u v apart k says.second
+
+second_kept : Laws → (s : Settled) (act : Act) (handed : Handed) (a b : FlashState) → ArePlaces a.geometry (settled_places s) → IfSome a.bytes (SettledSay s) → Answers (known_mounted s.zero).layout 0 (acting act) handed a b
+    → IfSome b.bytes (λ u. IfSome s.one (λ m. Says (known_mounted m) u))
+second_kept laws s act handed a b are says f =
+    told_beside laws s (mount_spots (known_mounted s.zero).layout) a.bytes b.bytes (λ l at. apart_of a.geometry (settled_places s) are 0 1 (known_mounted s.zero).layout l refl at zero_one) says f.moved.calls.keeps
+
+pub first_stopped : Laws → (s : Settled) (act : Act) (handed : Handed) (one : Option Held) (a b : FlashState) → ArePlaces a.geometry (settled_places s) → IfSome a.bytes (SettledSay s) → is_done handed.result ≡ false → one ≡ option_map helds.Mounted s.one
+    → Answers (known_mounted s.zero).layout 0 (acting act) handed a b → ImagesAnswer (settled_places s) 0 s.target (acts_on act 0) (record { zero = handed.held; one = one; target = s.target }) handed.result a b
+first_stopped laws s act handed one a b are says stop e f =
+    let p = settled_places s in
+    let known : Images = record { zero = handed.held; one = option_map helds.Mounted s.one; target = s.target } in
+    subst (λ (o : Option Held). ImagesAnswer p 0 s.target (acts_on act 0) (record { zero = handed.held; one = o; target = s.target }) handed.result a b) (sym e)
+    (act_stopped laws a.geometry p are 0 (known_mounted s.zero).layout refl s.target act handed a b stop f known refl (λ i. record { first = f.layout_kept i; second = held_layouts s.one i }) refl
+    (both_some (HeldSays handed.held) (λ u. IfSome s.one (λ m. Says (known_mounted m) u)) (ImagesSay known) b.bytes (λ u q k. record { first = q; second = held_says s.one u k }) f.says (second_kept laws s act handed a b are says f)))
+
+pub first_mounts : (h : Held) (o : Option Mounted) (one : Option Held) (b : Bool) → one ≡ option_map helds.Mounted o → is_mounted h ≡ b → MountsSettled h one b
+first_mounts h o one b e m = subst (λ (x : Option Held). MountsSettled h x b) (sym e) (by o b m)
+  where
+    by : (q : Option Mounted) (c : Bool) → is_mounted h ≡ c → MountsSettled h (option_map helds.Mounted q) c
+    by None c k = k
+    by (Some n) true k = (k, refl)
+    by (Some n) false k = sym (ap not k)
+
+abbrev with_first : Mounted → Settled → Settled
+with_first k s = record { zero = k; one = s.one; target = s.target }
+
+-- what the list is read over
+pub first_settled : Laws → (s : Settled) (k : Mounted) (act : Act) (handed : Handed) (a b : FlashState) → ArePlaces a.geometry (settled_places s) → IfSome a.bytes (SettledSay s) → handed.held ≡ helds.Mounted k
+    → Answers (known_mounted s.zero).layout 0 (acting act) handed a b → IfSome b.bytes (SettledSay (record { zero = k; one = s.one; target = s.target }))
+first_settled laws s k act handed a b are says held f =
+    both_some (HeldSays handed.held) (λ u. IfSome s.one (λ m. Says (known_mounted m) u)) (SettledSay (with_first k s)) b.bytes (λ u q r. record { first = held_as handed k u held q; second = r }) f.says (second_kept laws s act handed a b are says f)
+
+pub first_listed : Laws → (s : Settled) (k : Mounted) (act : Act) (handed : Handed) (r : Replied) (a b c : FlashState) → ArePlaces a.geometry (settled_places s) → handed.held ≡ helds.Mounted k → is_done handed.result ≡ true
+    → Answers (known_mounted s.zero).layout 0 (acting act) handed a b → ImagesAnswer (settled_places (record { zero = k; one = s.one; target = s.target })) 0 s.target (lists_after []) r.images r.result b c
+    → ImagesAnswer (settled_places s) 0 s.target (acts_on act 0) r.images r.result a c
+first_listed laws s k act handed r a b c are held is f list =
+    let d = done_reply handed.result is in
+    let same : (known_mounted k).layout ≡ (known_mounted s.zero).layout = ap held_layout (sym held) ∙ f.layout_kept in
+    act_listed laws a.geometry (settled_places s) are 0 (known_mounted s.zero).layout refl s.target act d.reply handed r.images r.result a b c d.is d.empty f
+    (subst (λ (l : Layout). ImagesAnswer (record { first = l; second = (settled_places s).second }) 0 s.target (lists_after []) r.images r.result b c) same list)
+
+-- Of image 1.
+
+told_other : Laws → (m n : Mounted) (t : ℕ) (spots : List (ℕ × ℕ)) (x y : Option (List ℕ)) → Apart (known_mounted m).layout spots → IfSome x (SettledSay (both_settled m n t)) → Told (Keeps spots) x y → IfSome y (Says (known_mounted m))
+told_other laws m n t spots None None apart s k = tt
+told_other laws m n t spots None (Some v) apart s k = absurd k
+told_other laws m n t spots (Some u) None apart s k = tt
+told_other laws m n t spots (Some u) (Some v) apart s k = laws.say (known_mounted m) spots u v apart k s.first
+
+first_kept : Laws → (m n : Mounted) (t : ℕ) (act : Act) (handed : Handed) (a b : FlashState) → ArePlaces a.geometry (both_places m n) → IfSome a.bytes (SettledSay (both_settled m n t)) → Answers (known_mounted n).layout 0 (acting act) handed a b → IfSome b.bytes (Says (known_mounted m))
+first_kept laws m n t act handed a b are says f =
+    told_other laws m n t (mount_spots (known_mounted n).layout) a.bytes b.bytes (apart_of a.geometry (both_places m n) are 1 0 (known_mounted n).layout (known_mounted m).layout refl refl one_zero) says f.moved.calls.keeps
+
+pub second_stopped : Laws → (m n : Mounted) (t : ℕ) (act : Act) (handed : Handed) (images : Images) (a b : FlashState) → ArePlaces a.geometry (both_places m n) → IfSome a.bytes (SettledSay (both_settled m n t)) → is_done handed.result ≡ false
+    → images ≡ record { zero = helds.Mounted m; one = Some handed.held; target = t } → Answers (known_mounted n).layout 0 (acting act) handed a b → ImagesAnswer (both_places m n) 0 t (acts_on act 1) images handed.result a b
+second_stopped laws m n t act handed images a b are says stop eq f =
+    let known : Images = record { zero = helds.Mounted m; one = Some handed.held; target = t } in
+    subst (λ (x : Images). ImagesAnswer (both_places m n) 0 t (acts_on act 1) x handed.result a b) (sym eq)
+    (act_stopped laws a.geometry (both_places m n) are 1 (known_mounted n).layout refl t act handed a b stop f known refl (λ i. record { first = (known_mounted m).layout; second = Some (f.layout_kept i) }) refl
+    (both_some (HeldSays handed.held) (Says (known_mounted m)) (ImagesSay known) b.bytes (λ u p q. record { first = q; second = p }) f.says (first_kept laws m n t act handed a b are says f)))
+
+pub second_mounts : (m : Mounted) (h : Held) (t : ℕ) (images : Images) (b : Bool) → images ≡ record { zero = helds.Mounted m; one = Some h; target = t } → is_mounted h ≡ b → MountsSettled images.zero images.one b
+second_mounts m h t images b e k = subst (λ (x : Images). MountsSettled x.zero x.one b) (sym e) (by b k)
+  where
+    by : (c : Bool) → is_mounted h ≡ c → MountsSettled (helds.Mounted m) (Some h) c
+    by true k = (refl, k)
+    by false k = k
+
+pub second_settled : Laws → (m n k : Mounted) (t : ℕ) (act : Act) (handed : Handed) (a b : FlashState) → ArePlaces a.geometry (both_places m n) → IfSome a.bytes (SettledSay (both_settled m n t)) → handed.held ≡ helds.Mounted k
     → Answers (known_mounted n).layout 0 (acting act) handed a b → IfSome b.bytes (SettledSay (both_settled m k t))
-one_settled laws m n k t act handed a b are says held f =
+second_settled laws m n k t act handed a b are says held f =
     both_some (HeldSays handed.held) (Says (known_mounted m)) (SettledSay (both_settled m k t)) b.bytes (λ u p q. record { first = q; second = held_as handed k u held p }) f.says (first_kept laws m n t act handed a b are says f)
 
-pub zero_listed : Laws → (m n k : Mounted) (t : ℕ) (act : Act) (reply : Reply) (handed : Handed) (r : Replied) (a b c : FlashState) → ArePlaces a.geometry (both_places m n) → handed.held ≡ helds.Mounted k → handed.result ≡ Ok reply → is_empty (said_of reply) ≡ true
-    → Answers (known_mounted m).layout 0 (acting act) handed a b → ImagesAnswer (both_places k n) 0 t (lists_after []) r.images r.result b c → ImagesAnswer (both_places m n) 0 t (acts_on act 0) r.images r.result a c
-zero_listed laws m n k t act reply handed r a b c are held is e f list =
-    let same : (known_mounted k).layout ≡ (known_mounted m).layout = ap held_layout (sym held) ∙ f.layout_kept in
-    act_listed laws a.geometry (both_places m n) are 0 (known_mounted m).layout refl t act reply handed r.images r.result a b c is e f
-    (subst (λ (l : Layout). ImagesAnswer (record { first = l; second = Some (known_mounted n).layout }) 0 t (lists_after []) r.images r.result b c) same list)
-
-pub one_listed : Laws → (m n k : Mounted) (t : ℕ) (act : Act) (reply : Reply) (handed : Handed) (r : Replied) (a b c : FlashState) → ArePlaces a.geometry (both_places m n) → handed.held ≡ helds.Mounted k → handed.result ≡ Ok reply → is_empty (said_of reply) ≡ true
+pub second_listed : Laws → (m n k : Mounted) (t : ℕ) (act : Act) (handed : Handed) (r : Replied) (a b c : FlashState) → ArePlaces a.geometry (both_places m n) → handed.held ≡ helds.Mounted k → is_done handed.result ≡ true
     → Answers (known_mounted n).layout 0 (acting act) handed a b → ImagesAnswer (both_places m k) 0 t (lists_after []) r.images r.result b c → ImagesAnswer (both_places m n) 0 t (acts_on act 1) r.images r.result a c
-one_listed laws m n k t act reply handed r a b c are held is e f list =
+second_listed laws m n k t act handed r a b c are held is f list =
+    let d = done_reply handed.result is in
     let same : (known_mounted k).layout ≡ (known_mounted n).layout = ap held_layout (sym held) ∙ f.layout_kept in
-    act_listed laws a.geometry (both_places m n) are 1 (known_mounted n).layout refl t act reply handed r.images r.result a b c is e f
+    act_listed laws a.geometry (both_places m n) are 1 (known_mounted n).layout refl t act d.reply handed r.images r.result a b c d.is d.empty f
     (subst (λ (l : Layout). ImagesAnswer (record { first = (known_mounted m).layout; second = Some l }) 0 t (lists_after []) r.images r.result b c) same list)
-
--- the places keep their flash
-pub still_places : (g h : Geometry) (p q : Places) → h ≡ g → q ≡ p → ArePlaces g p → ArePlaces h q
-still_places g h p q e f are = subst (λ (x : Geometry). ArePlaces x q) (sym e) (subst (λ (x : Places). ArePlaces g x) (sym f) are)

@@ -1,13 +1,13 @@
 -- The images after a request about one of them.
-use Rattle.std.proofs.Common.{◌≡◌, ℕ, zero, suc, ◌≤◌, false, Option, Some, None, List, [], Result, Ok, refl, sym, ◌∙◌, ap, subst, arith}
-use Rattle.std.specs.Prelude.{IfErr, IfSome, OnOk, option_map}
+use Rattle.std.proofs.Common.{◌≡◌, ℕ, zero, suc, ◌≤◌, false, Option, Some, None, List, [], Result, Ok, refl, sym, ◌∙◌, ap, subst, arith, Err}
+use Rattle.std.specs.Prelude.{IfSome, option_map}
 use Rattle.smp_flash.specs.Area.{Told, Keeps}
 use Rattle.smp_flash.specs.Layout.{geometry_of, progress_of}
 use Rattle.smp_flash.specs.State.{FlashState}
 use Rattle.smp_flash.specs.declared.geometry.Geometry.{Geometry}
 use Rattle.smp_flash.specs.declared.layout.Layout.{Layout}
-use Rattle.smp_flash.proofs.Passing.{Calls-refl}
-use Rattle.smp_flash.proofs.Telling.{IfSome-map}
+use Rattle.smp_flash.proofs.Passing.{Calls-refl, Calls-wider}
+use Rattle.smp_flash.proofs.Telling.{IfSome-map, Told-map}
 use Rattle.smp_gate.specs.Newest.{AgesAtMost}
 use Rattle.smp_model.specs.declared.device.AbstractDevice.{AbstractDevice}
 use Rattle.smp_model.specs.declared.device.Side.{Side}
@@ -17,29 +17,32 @@ use Rattle.smp_model.specs.Response.{Response, reply_alone}
 use Rattle.smp_model.specs.Said as said
 use Rattle.smp_model.specs.Sides.{side_settle_steps}
 use Rattle.smp_model.specs.Steps.{side_at, applied, Part}
-use Rattle.smp_upload.specs.Bytes.{SideReadable, Apart}
+use Rattle.smp_upload.specs.Bytes.{SideReadable, Apart, SideStands}
 use Rattle.smp_upload.specs.Faults.{upload_fault_end}
-use Rattle.smp_upload.specs.Moves.{Moved, Done, KeepsPending, mount_spots}
+use Rattle.smp_upload.specs.Moves.{Moved, Done, KeepsPending, mount_spots, Does, Moves}
 use Rattle.smp_upload.specs.States.{known_mounted}
 use Rattle.smp_upload.specs.declared.states.Lost.{Lost}
 use Rattle.smp_upload.specs.declared.states.UploadFault.{UploadFault}
-use Rattle.smp_side.specs.Held.{Answers, Broken, Caused, held_layout, HeldSays, is_mounted, is_ok}
+use Rattle.smp_side.specs.Held.{Answers, Broken, Caused, held_layout, HeldSays, is_mounted, is_ok, result_end, steps_by}
 use Rattle.smp_side.specs.declared.held.Held.{Held}
 use Rattle.smp_side.specs.declared.held.Held.TheVariants as helds
 use Rattle.smp_side.specs.declared.held.Handed.{Handed}
 use Rattle.smp_side.proofs.Answering.{answers_after, readable_of, readable_after, answers_more}
-use Rattle.smp_device.specs.Answers.{ImagesAnswer, ImagesMove, ImagesDo, ImagesPay}
+use Rattle.smp_device.specs.Answers.{ImagesAnswer, ImagesMove, ImagesDo}
 use Rattle.smp_device.specs.Laws.{Laws}
-use Rattle.smp_device.specs.Mounts.{FellIn}
 use Rattle.smp_device.specs.Places.{Places, ArePlaces, place_at, spots_of, StandsAt, ImagesStand, places_of, ImagesSay}
-use Rattle.smp_device.specs.Requests.{side_response, responds_of, responds_on, moved_target}
+use Rattle.smp_device.specs.Requests.{side_response, responds_of, responds_on, moved_target, Erases}
 use Rattle.smp_device.specs.declared.images.Images.{Images}
 use Rattle.smp_device.specs.declared.images.Replied.{Replied}
 use Rattle.smp_device.specs.declared.images.SideRequest.{SideRequest}
-use Rattle.smp_device.proofs.Falling.{answers_at, fell_by, fell_lost_zero, fell_lost_one, lost_at}
-use Rattle.smp_device.proofs.Paying.{pays_asked, pays_failed, pays_none}
-use Rattle.smp_device.proofs.Lifting.{Lifted, lifted, lifted_lost}
-use Rattle.smp_device.proofs.Parting.{apart_of, is_second}
+use Rattle.smp_device.proofs.Erasing.{erases_failed}
+use Rattle.smp_device.proofs.Falling.{fell_by, lost_at}
+use Rattle.smp_device.proofs.Paying.{pays_asked, pays_none}
+use Rattle.smp_device.proofs.Lifting.{Known, caused_more, caused_one, does_ok, known_by, mounts_one, moves_one, result_one, said_one, settled_response, told_moves, told_two}
+use Rattle.smp_device.proofs.Parting.{ages_each, apart_of, covers_at, pending_each, is_second}
+use Rattle.smp_device.specs.Asked.{AskedAt, OneAnswer}
+use Rattle.smp_device.specs.declared.images.Asked.{Asked}
+use Rattle.smp_upload.proofs.Composing.{ages_more}
 
 -- What is held of an image says what it said, where changes keep clear of it.
 
@@ -77,81 +80,79 @@ one_says laws g images are old held e t (Some u) (Some v) h s k = record {
   second = h;
 }
 
--- Together with what was lifted.
+-- A side that was mounted, and asked.
 
-answer_zero : (images : Images) (held : Held) (t u : ℕ) (respond : AbstractDevice → Response) (result : Result Reply UploadFault) (a b : FlashState) → held_layout held ≡ held_layout images.zero
-    → is_mounted held ≡ is_ok result → OnOk result (ImagesPay (places_of images) t respond a b) → IfErr result (λ fault. FellIn (places_of images) 5 0 fault a b)
-    → Lifted (places_of images) 5 t respond u result a b → IfSome b.bytes (ImagesSay (record { zero = held; one = images.one; target = u }))
-    → ImagesAnswer (places_of images) 5 t respond (record { zero = held; one = images.one; target = u }) result a b
-answer_zero images held t u respond result a b e m pays fell f s = record {
-  calls = f.calls;
-  moves = f.moves;
-  done = f.done;
-  said = f.said;
-  says = s;
-  places_kept = λ i. record { first = e i; second = option_map held_layout images.one };
-  ages = f.ages;
-  pending = f.pending;
-  caused = f.caused;
-  pays = pays;
-  lost = lost_at (places_of images) 5 0 (record { zero = held; one = images.one; target = u }) held result a b refl m fell;
-}
-
-answer_one : (images : Images) (old held : Held) → images.one ≡ Some old → (t u : ℕ) (respond : AbstractDevice → Response) (result : Result Reply UploadFault) (a b : FlashState) → held_layout held ≡ held_layout old
-    → is_mounted held ≡ is_ok result → OnOk result (ImagesPay (places_of images) t respond a b) → IfErr result (λ fault. FellIn (places_of images) 5 1 fault a b)
-    → Lifted (places_of images) 5 t respond u result a b → IfSome b.bytes (ImagesSay (record { zero = images.zero; one = Some held; target = u }))
-    → ImagesAnswer (places_of images) 5 t respond (record { zero = images.zero; one = Some held; target = u }) result a b
-answer_one images old held o t u respond result a b e m pays fell f s =
-    let same : option_map held_layout (Some held) ≡ option_map held_layout images.one = ap Some e ∙ sym (ap (option_map held_layout) o) in
+lifted : Laws → (g : Geometry) (p : Places) → ArePlaces g p → (unit : ℕ) (request : SideRequest) (i : ℕ) (l : Layout) → place_at i p ≡ Some l → (t : ℕ) (handed : Handed) (a b c : FlashState)
+    → Done l (mount_spots l) 2 side_settle_steps a b → Answers l 3 (side_response unit request) handed b c
+    → OneAnswer p 5 i t (moved_target t i request handed.result) (responds_on unit request i) handed.result a c
+lifted laws g p are unit request i l at t handed a b c f h =
+    let both = answers_after l 2 3 side_settle_steps (side_response unit request) handed a b c f h in
+    let keeps = both.moved.calls.keeps in
+    let known = known_by l (side_response unit request) handed.result a.bytes both.said both.tried in
     record {
-      calls = f.calls;
-      moves = f.moves;
-      done = f.done;
-      said = f.said;
-      says = s;
-      places_kept = λ i. record { first = held_layout images.zero; second = same i };
-      ages = f.ages;
-      pending = f.pending;
-      caused = f.caused;
-      pays = pays;
-      lost = lost_at (places_of images) 5 1 (record { zero = images.zero; one = Some held; target = u }) held result a b refl m fell;
+      calls = Calls-wider (spots_of p) (mount_spots l) (result_end handed.result) a c (covers_at p i l at) both.moved.calls;
+      moves = told_moves (Does l side_settle_steps) (Moves l (steps_by (side_response unit request))) (ImagesMove p t (moved_target t i request handed.result) (responds_on unit request i)) (Keeps (mount_spots l))
+          (λ u. (side : Side) → SideStands l side u → Known handed.result (settled_response unit request side).reply) a.bytes b.bytes c.bytes
+          (λ u v w. moves_one laws g p are unit request i l at t handed.result u v w) f.does h.moved.moves keeps known;
+      done = does_ok laws g p are unit request i l at t handed.result a b c f.does h.done keeps known;
+      said = said_one p unit request i l t handed.result a.bytes at both.said;
+      ages = ages_each g p i l 5 a.bytes c.bytes are at both.moved.ages keeps;
+      pending = pending_each g p i l a.bytes c.bytes are at both.moved.pending keeps;
+      caused = result_one p i l 5 handed.result a.bytes at both.caused;
+      pays = pays_asked laws g p are unit request i l at t handed.result a c both.done;
+      fell = fell_by p 5 i l handed.result a c at both.moved.calls both.caused;
     }
 
-pub asked_zero : Laws → (images : Images) (request : SideRequest) (layout : Layout) (handed : Handed) (u : ℕ) (a b c : FlashState) → ArePlaces a.geometry (places_of images) → layout ≡ held_layout images.zero
-    → u ≡ moved_target images.target 0 request handed.result → IfSome a.bytes (ImagesSay images)
-    → Done (held_layout images.zero) (mount_spots (held_layout images.zero)) 2 side_settle_steps a b → Answers layout 3 (side_response (geometry_of layout).unit request) handed b c
-    → ImagesAnswer (places_of images) 5 images.target (responds_on a.geometry.unit request 0) (record { zero = handed.held; one = images.one; target = u }) handed.result a c
-asked_zero laws images request layout handed u a b c are e target says done answers =
-    let l = held_layout images.zero in
-    let h = answers_at layout l a.geometry request handed b c e are.first.0 answers in
-    let t = moved_target images.target 0 request handed.result in
-    let both = answers_after l 2 3 side_settle_steps (side_response a.geometry.unit request) handed a b c done h in
-    let up = lifted laws a.geometry (places_of images) are a.geometry.unit request 0 l refl images.target handed a b c done h in
-    subst (λ (k : ℕ). ImagesAnswer (places_of images) 5 images.target (responds_on a.geometry.unit request 0) (record { zero = handed.held; one = images.one; target = k }) handed.result a c) (sym target)
-    (answer_zero images handed.held images.target t (responds_on a.geometry.unit request 0) handed.result a c both.layout_kept both.mounted
-    (pays_asked laws a.geometry (places_of images) are a.geometry.unit request 0 l refl images.target handed.result a c both.done)
-    (fell_by (places_of images) 5 0 l handed.result a c refl both.moved.calls both.caused) up
-    (zero_says laws a.geometry images are handed.held t a.bytes c.bytes both.says says both.moved.calls.keeps))
+-- the answer of a side, at the place and with the unit that the device knows
+pub answers_at : (layout l : Layout) (g : Geometry) (request : SideRequest) (handed : Handed) (b c : FlashState) → layout ≡ l → geometry_of l ≡ g
+    → Answers layout 3 (side_response (geometry_of layout).unit request) handed b c → Answers l 3 (side_response g.unit request) handed b c
+answers_at layout l g request handed b c e f h =
+    subst (λ (x : Geometry). Answers l 3 (side_response x.unit request) handed b c) f
+    (subst (λ (x : Layout). Answers x 3 (side_response (geometry_of x).unit request) handed b c) e h)
 
-pub asked_one : Laws → (images : Images) (old : Held) → images.one ≡ Some old → (request : SideRequest) (layout : Layout) (handed : Handed) (u : ℕ) (a b c : FlashState) → ArePlaces a.geometry (places_of images) → layout ≡ held_layout old
-    → u ≡ moved_target images.target 1 request handed.result → IfSome a.bytes (ImagesSay images)
-    → Done (held_layout old) (mount_spots (held_layout old)) 2 side_settle_steps a b → Answers layout 3 (side_response (geometry_of layout).unit request) handed b c
-    → ImagesAnswer (places_of images) 5 images.target (responds_on a.geometry.unit request 1) (record { zero = images.zero; one = Some handed.held; target = u }) handed.result a c
-asked_one laws images old o request layout handed u a b c are e target says done answers =
-    let l = held_layout old in
-    let at : place_at 1 (places_of images) ≡ Some l = ap (option_map held_layout) o in
-    let two = is_second a.geometry (option_map held_layout images.one) l are.second at in
-    let h = answers_at layout l a.geometry request handed b c e two.0 answers in
-    let t = moved_target images.target 1 request handed.result in
+asked_as : Laws → (l : Layout) (i t : ℕ) (request : SideRequest) (handed : Handed) (a b c : FlashState) → Done l (mount_spots l) 2 side_settle_steps a b → Answers l 3 (side_response a.geometry.unit request) handed b c → Erases l request handed.result c.bytes
+    → AskedAt l i t request (record { held = handed.held; target = moved_target t i request handed.result; result = handed.result }) a c
+asked_as laws l i t request handed a b c done h erased =
     let both = answers_after l 2 3 side_settle_steps (side_response a.geometry.unit request) handed a b c done h in
-    let up = lifted laws a.geometry (places_of images) are a.geometry.unit request 1 l at images.target handed a b c done h in
-    subst (λ (k : ℕ). ImagesAnswer (places_of images) 5 images.target (responds_on a.geometry.unit request 1) (record { zero = images.zero; one = Some handed.held; target = k }) handed.result a c) (sym target)
-    (answer_one images old handed.held o images.target t (responds_on a.geometry.unit request 1) handed.result a c both.layout_kept both.mounted
-    (pays_asked laws a.geometry (places_of images) are a.geometry.unit request 1 l at images.target handed.result a c both.done)
-    (fell_by (places_of images) 5 1 l handed.result a c at both.moved.calls both.caused) up
-    (one_says laws a.geometry images are old handed.held o t a.bytes c.bytes both.says says both.moved.calls.keeps))
+    record {
+      answers = λ p are at. lifted laws a.geometry p are a.geometry.unit request i l at t handed a b c done h;
+      keeps = both.moved.calls.keeps;
+      says = both.says;
+      layout_kept = both.layout_kept;
+      mounted = both.mounted;
+      erased = erased;
+    }
+
+pub asked_done : Laws → (l layout : Layout) (i t u : ℕ) (request : SideRequest) (handed : Handed) (a b c : FlashState) → geometry_of l ≡ a.geometry → layout ≡ l → u ≡ moved_target t i request handed.result
+    → Done l (mount_spots l) 2 side_settle_steps a b → Answers layout 3 (side_response (geometry_of layout).unit request) handed b c → Erases layout request handed.result c.bytes
+    → AskedAt l i t request (record { held = handed.held; target = u; result = handed.result }) a c
+asked_done laws l layout i t u request handed a b c g e target done answers erased =
+    subst (λ (k : ℕ). AskedAt l i t request (record { held = handed.held; target = k; result = handed.result }) a c) (sym target)
+    (asked_as laws l i t request handed a b c done (answers_at layout l a.geometry request handed b c e g answers) (subst (λ (x : Layout). Erases x request handed.result c.bytes) e erased))
 
 -- A mount that was lost.
+
+lifted_lost_at : Laws → (g : Geometry) (p : Places) → ArePlaces g p → (unit : ℕ) (request : SideRequest) (i : ℕ) (l : Layout) → place_at i p ≡ Some l → (t : ℕ) (fault : UploadFault) (a b : FlashState)
+    → Moved l (mount_spots l) 2 side_settle_steps (upload_fault_end fault) a b → Caused l 2 fault a.bytes → OneAnswer p 5 i t t (responds_on unit request i) (Err fault) a b
+lifted_lost_at laws g p are unit request i l at t fault a b m c =
+    let keeps = m.calls.keeps in
+    let more = caused_more l 2 5 fault a.bytes (omega arith) c in
+    record {
+      calls = Calls-wider (spots_of p) (mount_spots l) (upload_fault_end fault) a b (covers_at p i l at) m.calls;
+      moves = told_two (Moves l side_settle_steps) (Keeps (mount_spots l)) (ImagesMove p t t (responds_on unit request i)) a.bytes b.bytes (λ u v. mounts_one laws g p are unit request i l at t u v) m.moves keeps;
+      done = tt;
+      said = tt;
+      ages = ages_each g p i l 5 a.bytes b.bytes are at (Told-map (AgesAtMost 2 (progress_of l)) (AgesAtMost 5 (progress_of l)) a.bytes b.bytes (λ u v. ages_more l 2 5 u v (omega arith)) m.ages) keeps;
+      pending = pending_each g p i l a.bytes b.bytes are at m.pending keeps;
+      caused = caused_one p i l 5 fault a.bytes at more;
+      pays = tt;
+      fell = fell_by p 5 i l (Err fault) a b at m.calls more;
+    }
+
+lifted_lost : Laws → (g : Geometry) (p : Places) → ArePlaces g p → (unit : ℕ) (request : SideRequest) (i : ℕ) (l : Layout) → place_at i p ≡ Some l → (t : ℕ) (fault : UploadFault) (result : Result Reply UploadFault) (a b : FlashState)
+    → result ≡ Err fault → Moved l (mount_spots l) 2 side_settle_steps (upload_fault_end fault) a b → Caused l 2 fault a.bytes → OneAnswer p 5 i t t (responds_on unit request i) result a b
+lifted_lost laws g p are unit request i l at t fault result a b e m c =
+    subst (λ (r : Result Reply UploadFault). OneAnswer p 5 i t t (responds_on unit request i) r a b) (sym e) (lifted_lost_at laws g p are unit request i l at t fault a b m c)
 
 pub held_readable : (h : Held) (bytes : List ℕ) → HeldSays h bytes → SideReadable (held_layout h) bytes
 held_readable (helds.Unmounted u) bytes s = s
@@ -168,6 +169,23 @@ lost_says old held fault a b e un m s =
     IfSome-map (SideReadable l) (HeldSays held) b.bytes (λ u r. unmounted_says held l u e un r)
     (readable_after l (mount_spots l) 2 side_settle_steps (upload_fault_end fault) a b m (IfSome-map (HeldSays old) (SideReadable l) a.bytes (held_readable old) s))
 
+pub asked_lost : Laws → (old : Held) (i t : ℕ) (request : SideRequest) (lost : Lost) (handed : Handed) (a b : FlashState) → lost.state.layout ≡ held_layout old → IfSome a.bytes (HeldSays old) → Broken lost.state.layout lost.fault handed
+    → Moved (held_layout old) (mount_spots (held_layout old)) 2 side_settle_steps (upload_fault_end lost.fault) a b → Caused (held_layout old) 2 lost.fault a.bytes
+    → AskedAt (held_layout old) i t request (record { held = handed.held; target = t; result = handed.result }) a b
+asked_lost laws old i t request lost handed a b e says broken m c =
+    let l = held_layout old in
+    let kept : held_layout handed.held ≡ l = broken.layout_kept ∙ e in
+    record {
+      answers = λ p are at. lifted_lost laws a.geometry p are a.geometry.unit request i l at t lost.fault handed.result a b broken.failed m c;
+      keeps = m.calls.keeps;
+      says = lost_says old handed.held lost.fault a b kept broken.unmounted m says;
+      layout_kept = kept;
+      mounted = broken.unmounted ∙ sym (ap is_ok broken.failed);
+      erased = erases_failed l request lost.fault handed.result b.bytes broken.failed;
+    }
+
+-- Image 0 was asked, or image 1.
+
 pub first_says : (images : Images) (x : Option (List ℕ)) → IfSome x (ImagesSay images) → IfSome x (HeldSays images.zero)
 first_says images None s = tt
 first_says images (Some u) s = s.first
@@ -176,29 +194,48 @@ pub second_says : (images : Images) (old : Held) (x : Option (List ℕ)) → ima
 second_says images old None e s = tt
 second_says images old (Some u) e s = subst (λ (o : Option Held). IfSome o (λ h. HeldSays h u)) e s.second
 
-pub lost_zero : Laws → (images : Images) (request : SideRequest) (lost : Lost) (handed : Handed) (a b : FlashState) → ArePlaces a.geometry (places_of images) → lost.state.layout ≡ held_layout images.zero → IfSome a.bytes (ImagesSay images)
-    → Broken lost.state.layout lost.fault handed
-    → Moved (held_layout images.zero) (mount_spots (held_layout images.zero)) 2 side_settle_steps (upload_fault_end lost.fault) a b → Caused (held_layout images.zero) 2 lost.fault a.bytes
-    → ImagesAnswer (places_of images) 5 images.target (responds_on a.geometry.unit request 0) (record { zero = handed.held; one = images.one; target = images.target }) handed.result a b
-lost_zero laws images request lost handed a b are e says broken m c =
-    let l = held_layout images.zero in
-    let kept : held_layout handed.held ≡ l = broken.layout_kept ∙ e in
-    answer_zero images handed.held images.target images.target (responds_on a.geometry.unit request 0) handed.result a b kept (broken.unmounted ∙ sym (ap is_ok broken.failed)) (pays_failed (ImagesPay (places_of images) images.target (responds_on a.geometry.unit request 0) a b) lost.fault handed.result broken.failed)
-    (fell_lost_zero images lost handed a b broken m c)
-    (lifted_lost laws a.geometry (places_of images) are a.geometry.unit request 0 l refl images.target lost.fault handed.result a b broken.failed m c)
-    (zero_says laws a.geometry images are handed.held images.target a.bytes b.bytes (lost_says images.zero handed.held lost.fault a b kept broken.unmounted m (first_says images a.bytes says)) says m.calls.keeps)
+pub second_held : (g : Geometry) (images : Images) (old : Held) → ArePlaces g (places_of images) → images.one ≡ Some old → geometry_of (held_layout old) ≡ g
+second_held g images old are o = (is_second g (option_map held_layout images.one) (held_layout old) are.second (ap (option_map held_layout) o)).0
 
-pub lost_one : Laws → (images : Images) (old : Held) → images.one ≡ Some old → (request : SideRequest) (lost : Lost) (handed : Handed) (a b : FlashState) → ArePlaces a.geometry (places_of images) → lost.state.layout ≡ held_layout old
-    → IfSome a.bytes (ImagesSay images) → Broken lost.state.layout lost.fault handed
-    → Moved (held_layout old) (mount_spots (held_layout old)) 2 side_settle_steps (upload_fault_end lost.fault) a b → Caused (held_layout old) 2 lost.fault a.bytes
-    → ImagesAnswer (places_of images) 5 images.target (responds_on a.geometry.unit request 1) (record { zero = images.zero; one = Some handed.held; target = images.target }) handed.result a b
-lost_one laws images old o request lost handed a b are e says broken m c =
-    let l = held_layout old in
-    let kept : held_layout handed.held ≡ l = broken.layout_kept ∙ e in
-    answer_one images old handed.held o images.target images.target (responds_on a.geometry.unit request 1) handed.result a b kept (broken.unmounted ∙ sym (ap is_ok broken.failed)) (pays_failed (ImagesPay (places_of images) images.target (responds_on a.geometry.unit request 1) a b) lost.fault handed.result broken.failed)
-    (fell_lost_one images old o lost handed a b broken m c)
-    (lifted_lost laws a.geometry (places_of images) are a.geometry.unit request 1 l (ap (option_map held_layout) o) images.target lost.fault handed.result a b broken.failed m c)
-    (one_says laws a.geometry images are old handed.held o images.target a.bytes b.bytes (lost_says old handed.held lost.fault a b kept broken.unmounted m (second_says images old a.bytes o says)) says m.calls.keeps)
+pub answer_zero : Laws → (images : Images) (request : SideRequest) (asked : Asked) (a b : FlashState) → ArePlaces a.geometry (places_of images) → IfSome a.bytes (ImagesSay images) → AskedAt (held_layout images.zero) 0 images.target request asked a b
+    → ImagesAnswer (places_of images) 5 images.target (responds_on a.geometry.unit request 0) (record { zero = asked.held; one = images.one; target = asked.target }) asked.result a b
+answer_zero laws images request asked a b are says h =
+    let f = h.answers (places_of images) are refl in
+    let after : Images = record { zero = asked.held; one = images.one; target = asked.target } in
+    record {
+      calls = f.calls;
+      moves = f.moves;
+      done = f.done;
+      said = f.said;
+      says = zero_says laws a.geometry images are asked.held asked.target a.bytes b.bytes h.says says h.keeps;
+      places_kept = λ i. record { first = h.layout_kept i; second = option_map held_layout images.one };
+      ages = f.ages;
+      pending = f.pending;
+      caused = f.caused;
+      pays = f.pays;
+      lost = lost_at (places_of images) 5 0 after asked.held asked.result a b refl h.mounted f.fell;
+    }
+
+pub answer_one : Laws → (images : Images) (old : Held) → images.one ≡ Some old → (request : SideRequest) (asked : Asked) (a b : FlashState) → ArePlaces a.geometry (places_of images) → IfSome a.bytes (ImagesSay images) → AskedAt (held_layout old) 1 images.target request asked a b
+    → ImagesAnswer (places_of images) 5 images.target (responds_on a.geometry.unit request 1) (record { zero = images.zero; one = Some asked.held; target = asked.target }) asked.result a b
+answer_one laws images old o request asked a b are says h =
+    let at : place_at 1 (places_of images) ≡ Some (held_layout old) = ap (option_map held_layout) o in
+    let f = h.answers (places_of images) are at in
+    let after : Images = record { zero = images.zero; one = Some asked.held; target = asked.target } in
+    let same : option_map held_layout (Some asked.held) ≡ option_map held_layout images.one = ap Some h.layout_kept ∙ sym at in
+    record {
+      calls = f.calls;
+      moves = f.moves;
+      done = f.done;
+      said = f.said;
+      says = one_says laws a.geometry images are old asked.held o asked.target a.bytes b.bytes h.says says h.keeps;
+      places_kept = λ i. record { first = held_layout images.zero; second = same i };
+      ages = f.ages;
+      pending = f.pending;
+      caused = f.caused;
+      pays = f.pays;
+      lost = lost_at (places_of images) 5 1 after asked.held asked.result a b refl h.mounted f.fell;
+    }
 
 -- No such image.
 

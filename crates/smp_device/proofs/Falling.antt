@@ -3,81 +3,28 @@ use Rattle.std.proofs.Common.{◌≡◌, ℕ, ◌+◌, ◌≤◌, Option, Some, 
 use Rattle.std.specs.Prelude.{IfErr, IfSome, option_map}
 use Rattle.smp_flash.specs.Area.{Told}
 use Rattle.smp_flash.specs.Calls.{Calls, Goes}
-use Rattle.smp_flash.specs.Layout.{geometry_of, progress_of}
+use Rattle.smp_flash.specs.Layout.{progress_of}
 use Rattle.smp_flash.specs.State.{FlashState}
-use Rattle.smp_flash.specs.declared.geometry.Geometry.{Geometry}
 use Rattle.smp_flash.specs.declared.layout.Layout.{Layout}
 use Rattle.smp_flash.proofs.Passing.{Spares-same}
 use Rattle.smp_gate.specs.Newest.{AgesAtMost, newest_generation}
 use Rattle.smp_model.specs.declared.reply.Reply.{Reply}
-use Rattle.smp_model.specs.Sides.{side_settle_steps}
 use Rattle.smp_progress.specs.State.{CanTake}
-use Rattle.smp_upload.specs.Faults.{upload_fault_end}
-use Rattle.smp_upload.specs.Moves.{Done, Moved, mount_spots}
-use Rattle.smp_upload.specs.declared.states.Lost.{Lost}
+use Rattle.smp_upload.specs.Moves.{mount_spots}
 use Rattle.smp_upload.specs.declared.states.UploadFault.{UploadFault}
 use Rattle.smp_upload.specs.declared.states.UploadFault.TheVariants as faults
-use Rattle.smp_side.specs.Held.{Answers, Broken, Caused, ResultCaused, held_layout, is_mounted, is_ok, result_end}
+use Rattle.smp_side.specs.Held.{Caused, ResultCaused, is_mounted, is_ok, result_end}
 use Rattle.smp_side.specs.declared.held.Held.{Held}
-use Rattle.smp_side.specs.declared.held.Handed.{Handed}
-use Rattle.smp_side.proofs.Answering.{answers_after}
 use Rattle.smp_device.specs.Answers.{LostOne}
 use Rattle.smp_device.specs.Mounts.{FellIn, held_at}
-use Rattle.smp_device.specs.Places.{Places, ArePlaces, AtEach, place_at, places_of}
-use Rattle.smp_device.specs.Requests.{side_response}
+use Rattle.smp_device.specs.Places.{Places, AtEach, place_at}
 use Rattle.smp_device.specs.declared.images.Images.{Images}
 use Rattle.smp_device.specs.declared.images.Replied.{Replied}
-use Rattle.smp_device.specs.declared.images.SideRequest.{SideRequest}
 use Rattle.smp_device.proofs.Lifting.{caused_more}
-use Rattle.smp_device.proofs.Parting.{is_second}
 
 pub fell_by : (p : Places) (n i : ℕ) (l : Layout) (r : Result Reply UploadFault) (a b : FlashState) → place_at i p ≡ Some l → Calls (mount_spots l) (result_end r) a b → ResultCaused l n r a.bytes → IfErr r (λ fault. FellIn p n i fault a b)
 fell_by p n i l (Ok reply) a b at calls c = tt
 fell_by p n i l (Err fault) a b at calls c = record { layout = l; place = at; spared = λ s. (calls.spared s).troubles; caused = c }
-
--- the answer of a side, at the place and with the unit that the device knows
-pub answers_at : (layout l : Layout) (g : Geometry) (request : SideRequest) (handed : Handed) (b c : FlashState) → layout ≡ l → geometry_of l ≡ g
-    → Answers layout 3 (side_response (geometry_of layout).unit request) handed b c → Answers l 3 (side_response g.unit request) handed b c
-answers_at layout l g request handed b c e f h =
-    subst (λ (x : Geometry). Answers l 3 (side_response x.unit request) handed b c) f
-    (subst (λ (x : Layout). Answers x 3 (side_response (geometry_of x).unit request) handed b c) e h)
-
--- of a side that was mounted and asked
-fell_asked : (p : Places) (i : ℕ) (l layout : Layout) (request : SideRequest) (handed : Handed) (a b c : FlashState) → place_at i p ≡ Some l → layout ≡ l → geometry_of l ≡ a.geometry
-    → Done l (mount_spots l) 2 side_settle_steps a b → Answers layout 3 (side_response (geometry_of layout).unit request) handed b c → IfErr handed.result (λ fault. FellIn p 5 i fault a c)
-fell_asked p i l layout request handed a b c at e g done answers =
-    let h = answers_at layout l a.geometry request handed b c e g answers in
-    let both = answers_after l 2 3 side_settle_steps (side_response a.geometry.unit request) handed a b c done h in
-    fell_by p 5 i l handed.result a c at both.moved.calls both.caused
-
--- of a mount that was lost
-fell_lost : (p : Places) (i : ℕ) (l : Layout) (fault : UploadFault) (r : Result Reply UploadFault) (a b : FlashState) → place_at i p ≡ Some l → r ≡ Err fault
-    → Moved l (mount_spots l) 2 side_settle_steps (upload_fault_end fault) a b → Caused l 2 fault a.bytes → IfErr r (λ fault. FellIn p 5 i fault a b)
-fell_lost p i l fault r a b at e m c =
-    subst (λ (q : Result Reply UploadFault). IfErr q (λ f. FellIn p 5 i f a b)) (sym e) (fell_by p 5 i l (Err fault) a b at m.calls (caused_more l 2 5 fault a.bytes (omega arith) c))
-
-pub fell_zero : (images : Images) (request : SideRequest) (layout : Layout) (handed : Handed) (a b c : FlashState) → ArePlaces a.geometry (places_of images) → layout ≡ held_layout images.zero
-    → Done (held_layout images.zero) (mount_spots (held_layout images.zero)) 2 side_settle_steps a b → Answers layout 3 (side_response (geometry_of layout).unit request) handed b c
-    → IfErr handed.result (λ fault. FellIn (places_of images) 5 0 fault a c)
-fell_zero images request layout handed a b c are e done answers = fell_asked (places_of images) 0 (held_layout images.zero) layout request handed a b c refl e are.first.0 done answers
-
-pub fell_one : (images : Images) (old : Held) → images.one ≡ Some old → (request : SideRequest) (layout : Layout) (handed : Handed) (a b c : FlashState) → ArePlaces a.geometry (places_of images) → layout ≡ held_layout old
-    → Done (held_layout old) (mount_spots (held_layout old)) 2 side_settle_steps a b → Answers layout 3 (side_response (geometry_of layout).unit request) handed b c
-    → IfErr handed.result (λ fault. FellIn (places_of images) 5 1 fault a c)
-fell_one images old o request layout handed a b c are e done answers =
-    let at : place_at 1 (places_of images) ≡ Some (held_layout old) = ap (option_map held_layout) o in
-    let two = is_second a.geometry (option_map held_layout images.one) (held_layout old) are.second at in
-    fell_asked (places_of images) 1 (held_layout old) layout request handed a b c at e two.0 done answers
-
-pub fell_lost_zero : (images : Images) (lost : Lost) (handed : Handed) (a b : FlashState) → Broken lost.state.layout lost.fault handed
-    → Moved (held_layout images.zero) (mount_spots (held_layout images.zero)) 2 side_settle_steps (upload_fault_end lost.fault) a b → Caused (held_layout images.zero) 2 lost.fault a.bytes
-    → IfErr handed.result (λ fault. FellIn (places_of images) 5 0 fault a b)
-fell_lost_zero images lost handed a b broken m c = fell_lost (places_of images) 0 (held_layout images.zero) lost.fault handed.result a b refl broken.failed m c
-
-pub fell_lost_one : (images : Images) (old : Held) → images.one ≡ Some old → (lost : Lost) (handed : Handed) (a b : FlashState) → Broken lost.state.layout lost.fault handed
-    → Moved (held_layout old) (mount_spots (held_layout old)) 2 side_settle_steps (upload_fault_end lost.fault) a b → Caused (held_layout old) 2 lost.fault a.bytes
-    → IfErr handed.result (λ fault. FellIn (places_of images) 5 1 fault a b)
-fell_lost_one images old o lost handed a b broken m c = fell_lost (places_of images) 1 (held_layout old) lost.fault handed.result a b (ap (option_map held_layout) o) broken.failed m c
 
 pub fell_at : (p : Places) (image i : ℕ) (r : Result Reply UploadFault) (a b : FlashState) → image ≡ i → IfErr r (λ fault. FellIn p 5 i fault a b) → IfErr r (λ fault. FellIn p 5 image fault a b)
 fell_at p image i r a b e f = subst (λ (n : ℕ). IfErr r (λ fault. FellIn p 5 n fault a b)) (sym e) f

@@ -39,17 +39,12 @@ use Rattle.smp_device.specs.declared.images.SideRequest.TheVariants as asks
 use Rattle.smp_device.proofs.Asking.{told_here, told_alone, no_side}
 use Rattle.smp_device.proofs.Lifting.{side_here}
 use Rattle.smp_device.proofs.Paying.{ok_map, pays_same}
+use Rattle.smp_flash.proofs.Telling.{Told-map}
 
 -- The same response, of the devices that the bytes stand for.
 
 abbrev pub SameFor : Places → (target : ℕ) → (AbstractDevice → Response) → (AbstractDevice → Response) → Type 0
 SameFor p t first other = (d : AbstractDevice) (bytes : List ℕ) → ImagesStand p t d bytes → first d ≡ other d
-
-told_map : (R S : List ℕ → List ℕ → Type 0) (x y : Option (List ℕ)) → ((u v : List ℕ) → R u v → S u v) → Told R x y → Told S x y
-told_map R S None None f a = tt
-told_map R S None (Some v) f a = absurd a
-told_map R S (Some u) None f a = absurd a
-told_map R S (Some u) (Some v) f a = f u v a
 
 moves_as : (p : Places) (t u : ℕ) (first other : AbstractDevice → Response) (old new : List ℕ) → SameFor p t first other → ImagesMove p t u first old new → ImagesMove p t u other old new
 moves_as p t u first other old new same f = λ d stands. let r = f d stands in record {
@@ -62,7 +57,7 @@ does_as : (p : Places) (t u : ℕ) (first other : AbstractDevice → Response) (
 does_as p t u first other old new same f = λ d stands. subst (λ (x : Response). ImagesStand p u (applied x.steps d) new) (same d old stands) (f d stands)
 
 done_as : (p : Places) (t u : ℕ) (first other : AbstractDevice → Response) (r : Result Reply UploadFault) (x y : Option (List ℕ)) → SameFor p t first other → OnOk r (Told (ImagesDo p t u first) x y) → OnOk r (Told (ImagesDo p t u other) x y)
-done_as p t u first other (Ok reply) x y same f = told_map (ImagesDo p t u first) (ImagesDo p t u other) x y (λ v w. does_as p t u first other v w same) f
+done_as p t u first other (Ok reply) x y same f = Told-map (ImagesDo p t u first) (ImagesDo p t u other) x y (λ v w. does_as p t u first other v w same) f
 done_as p t u first other (Err fault) x y same f = tt
 
 tells_as : (p : Places) (t : ℕ) (first other : AbstractDevice → Response) (reply : Reply) (x : Option (List ℕ)) → SameFor p t first other → ImagesTell p t first x reply → ImagesTell p t other x reply
@@ -77,7 +72,7 @@ pub images_as : (p : Places) (n t : ℕ) (first other : AbstractDevice → Respo
     → ImagesAnswer p n t first images r a b → ImagesAnswer p n t other images r a b
 images_as p n t first other images r a b same f = record {
   calls = f.calls;
-  moves = told_map (ImagesMove p t images.target first) (ImagesMove p t images.target other) a.bytes b.bytes (λ u v. moves_as p t images.target first other u v same) f.moves;
+  moves = Told-map (ImagesMove p t images.target first) (ImagesMove p t images.target other) a.bytes b.bytes (λ u v. moves_as p t images.target first other u v same) f.moves;
   done = done_as p t images.target first other r a.bytes b.bytes same f.done;
   said = said_as p t first other r a.bytes same f.said;
   says = f.says;

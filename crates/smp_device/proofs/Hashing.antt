@@ -33,9 +33,10 @@ use Rattle.smp_side.specs.declared.held.Held.TheVariants as helds
 use Rattle.smp_device.specs.Answers.{ImagesAnswer, ImagesMove, ImagesDo, ImagesPay, ImagesTell, ResultCausedIn}
 use Rattle.smp_device.specs.Places.{Places, place_at, spots_of, ImagesStand, ImagesSay}
 use Rattle.smp_device.specs.Setting.{RunsIs, acts_of, acts_on}
-use Rattle.smp_device.specs.Settling.{SettledSay, alone_places, alone_settled, both_places, both_settled, unknown_at}
+use Rattle.smp_device.specs.Settling.{SettledSay, alone_places, alone_settled, both_places, both_settled, settled_places, unknown_at}
 use Rattle.smp_device.specs.declared.images.Images.{Images}
 use Rattle.smp_device.specs.declared.images.Replied.{Replied}
+use Rattle.smp_device.specs.declared.settled.Settled.{Settled}
 use Rattle.smp_device.specs.declared.sets.Act.{Act}
 use Rattle.smp_device.specs.declared.sets.Act.TheVariants as acts
 use Rattle.smp_device.proofs.Asking.{no_side}
@@ -43,11 +44,8 @@ use Rattle.smp_device.proofs.Fields.{SameFor}
 use Rattle.smp_device.proofs.Falling.{lost_read}
 use Rattle.smp_device.proofs.Lifting.{side_here}
 use Rattle.smp_device.proofs.Paying.{ok_map, pays_behind, pays_same}
-use Rattle.smp_device.proofs.Listings.{calls_at, quiet, quiet_broken, read_fell, read_fell_then, unknown_is, unknown_says, unknown_unmounted}
-
-some_map : (P Q : List ℕ → Type 0) (x : Option (List ℕ)) → ((u : List ℕ) → P u → Q u) → IfSome x P → IfSome x Q
-some_map P Q None f p = tt
-some_map P Q (Some u) f p = f u p
+use Rattle.smp_device.proofs.Listings.{calls_at, quiet, quiet_broken, read_fell, read_fell_then, unknown_is, unknown_says, unknown_unmounted, both_some}
+use Rattle.smp_flash.proofs.Telling.{IfSome-map}
 
 -- Behind a read that changed no byte.
 
@@ -102,7 +100,7 @@ images_here p n t first other images r a b same f = record {
   pending = f.pending;
   caused = f.caused;
   pays = ok_map (ImagesPay p t first a b) (ImagesPay p t other a b) r
-      (pays_same p t (λ d. (first d).steps) (λ d. (other d).steps) a b (some_map (SameHere p t first other) (λ u. (d : AbstractDevice) → ImagesStand p t d u → (first d).steps ≡ (other d).steps) a.bytes (λ u e d stands. ap (λ (x : Response). x.steps) (e d stands)) same)) f.pays;
+      (pays_same p t (λ d. (first d).steps) (λ d. (other d).steps) a b (IfSome-map (SameHere p t first other) (λ u. (d : AbstractDevice) → ImagesStand p t d u → (first d).steps ≡ (other d).steps) a.bytes (λ u e d stands. ap (λ (x : Response). x.steps) (e d stands)) same)) f.pays;
   lost = f.lost;
 }
 
@@ -168,11 +166,11 @@ pub hash_image : (hash : List ℕ) (o : Option ImageInfo) (b : Bool) → b ≡ h
 hash_image hash None b e f = absurd (cc (sym e ∙ f))
 hash_image hash (Some i) b e f = refl
 
--- Of a device of one image.
+-- what was answered about all images, as they are known
+pub as_settled : (respond : AbstractDevice → Response) (s known : Settled) (r : Replied) (a b : FlashState) → s ≡ known → ImagesAnswer (settled_places s) 0 s.target respond r.images r.result a b → ImagesAnswer (settled_places known) 0 known.target respond r.images r.result a b
+as_settled respond s known r a b e f = subst (λ (x : Settled). ImagesAnswer (settled_places x) 0 x.target respond r.images r.result a b) e f
 
-some_two : (P Q R : List ℕ → Type 0) (x : Option (List ℕ)) → ((u : List ℕ) → P u → Q u → R u) → IfSome x P → IfSome x Q → IfSome x R
-some_two P Q R None f p q = tt
-some_two P Q R (Some u) f p q = f u p q
+-- Of a device of one image.
 
 pub alone_failed : (m : Mounted) (t : ℕ) (l : Layout) (held : Held) (respond : AbstractDevice → Response) (fault : CallFault) (u : UploadFault) (a b : FlashState) → IfSome a.bytes (SettledSay (alone_settled m t)) → Calls (area_spot (slot_of (known_mounted m).layout 0) ∷ []) (fault_end fault) a b → b.bytes ≡ a.bytes
     → held ≡ unknown_at l → l ≡ (known_mounted m).layout → u ≡ of_call fault
@@ -182,7 +180,7 @@ alone_failed m t l held respond fault u a b says calls kept e f is =
     let images : Images = record { zero = held; one = None; target = t } in
     let un = unknown_is m l held e f in
     quiet_broken p 0 t respond images 0 fault u a b (λ i. record { first = held_layout (un i); second = None }) refl is (unknown_unmounted (known_mounted m).layout held un) (read_fell p 0 0 p.first fault a b refl calls) (calls_at p 0 p.first (fault_end fault) a b refl calls) kept
-    (some_map (SettledSay (alone_settled m t)) (ImagesSay images) a.bytes (λ v s. record { first = unknown_says m held v un s.first; second = tt }) says)
+    (IfSome-map (SettledSay (alone_settled m t)) (ImagesSay images) a.bytes (λ v s. record { first = unknown_says m held v un s.first; second = tt }) says)
 
 -- an act behind the read, where it is what the hash means
 pub alone_acts : (m : Mounted) (t : ℕ) (act : Act) (hash : List ℕ) (confirm : Bool) (r : Replied) (a b c : FlashState) → Calls (area_spot (slot_of (known_mounted m).layout 0) ∷ []) Went a b → b.bytes ≡ a.bytes
@@ -196,14 +194,14 @@ alone_acts m t act hash confirm r a b c calls kept same f =
 pub alone_runs : (m : Mounted) (t : ℕ) (hash : List ℕ) (confirm b : Bool) (x : Option (List ℕ)) → b ≡ true → IfSome x (RunsIs (known_mounted m).layout hash b) → IfSome x (SameHere (alone_places m) t (acts_on (acts.Confirm confirm) 0) (sets_hash hash confirm))
 alone_runs m t hash confirm b x e f =
     let p = alone_places m in
-    some_map (RunsIs (known_mounted m).layout hash b) (SameHere p t (acts_on (acts.Confirm confirm) 0) (sets_hash hash confirm)) x
+    IfSome-map (RunsIs (known_mounted m).layout hash b) (SameHere p t (acts_on (acts.Confirm confirm) 0) (sets_hash hash confirm)) x
     (λ u k. first_runs p t hash confirm u (runs_there p t 0 (known_mounted m).layout hash true u refl (subst (λ (q : Bool). RunsIs (known_mounted m).layout hash q u) e k))) f
 
 pub alone_holds : OneSide → (m : Mounted) (t : ℕ) (hash : List ℕ) (confirm b c : Bool) (mark : Mark) (x : Option (List ℕ)) → b ≡ false → c ≡ true → mark ≡ mark_of confirm → c ≡ has_hash hash (known_mounted m).image
     → IfSome x (RunsIs (known_mounted m).layout hash b) → IfSome x (SettledSay (alone_settled m t)) → IfSome x (SameHere (alone_places m) t (acts_on (acts.Mark mark) 0) (sets_hash hash confirm))
 alone_holds one m t hash confirm b c mark x e f is has r says =
     let p = alone_places m in
-    some_two (RunsIs (known_mounted m).layout hash b) (SettledSay (alone_settled m t)) (SameHere p t (acts_on (acts.Mark mark) 0) (sets_hash hash confirm)) x
+    both_some (RunsIs (known_mounted m).layout hash b) (SettledSay (alone_settled m t)) (SameHere p t (acts_on (acts.Mark mark) 0) (sets_hash hash confirm)) x
     (λ u k s. first_holds p t hash confirm mark u is (runs_there p t 0 (known_mounted m).layout hash false u refl (subst (λ (q : Bool). RunsIs (known_mounted m).layout hash q u) e k)) (runs_none p t hash u refl)
     (holds_there one p t 0 m hash true u refl (sym f ∙ has) s.first)) r says
 
@@ -216,8 +214,8 @@ alone_none one m t hash confirm b c r a d e f has calls kept runs2 says is =
     let images : Images = record { zero = helds.Mounted m; one = None; target = t } in
     subst (λ (x : Replied). ImagesAnswer p 0 t (sets_hash hash confirm) x.images x.result a d) (sym is)
     (quiet p 0 t (sets_hash hash confirm) images (replied.GroupError 1 8) a d refl refl (calls_at p 0 p.first Went a d refl calls) kept
-    (some_map (SettledSay (alone_settled m t)) (ImagesSay images) a.bytes (λ v s. record { first = s.first; second = tt }) says)
-    (some_two (RunsIs (known_mounted m).layout hash b) (SettledSay (alone_settled m t)) (λ u. (x : AbstractDevice) → ImagesStand p t x u → sets_hash hash confirm x ≡ reply_alone (said_of (replied.GroupError 1 8))) a.bytes
+    (IfSome-map (SettledSay (alone_settled m t)) (ImagesSay images) a.bytes (λ v s. record { first = s.first; second = tt }) says)
+    (both_some (RunsIs (known_mounted m).layout hash b) (SettledSay (alone_settled m t)) (λ u. (x : AbstractDevice) → ImagesStand p t x u → sets_hash hash confirm x ≡ reply_alone (said_of (replied.GroupError 1 8))) a.bytes
     (λ u k s x stands. sym (none_has p t hash confirm u (runs_there p t 0 (known_mounted m).layout hash false u refl (subst (λ (q : Bool). RunsIs (known_mounted m).layout hash q u) e k)) (runs_none p t hash u refl)
     (holds_there one p t 0 m hash false u refl (sym f ∙ has) s.first) (holds_none p t hash u refl) x stands)) runs2 says))
 
@@ -249,26 +247,26 @@ four_known one m n t hash b c e f x y kept g h r s says =
 pub both_runs_0 : (m n : Mounted) (t : ℕ) (hash : List ℕ) (confirm b : Bool) (x : Option (List ℕ)) → b ≡ true → IfSome x (RunsIs (known_mounted m).layout hash b) → IfSome x (SameHere (both_places m n) t (acts_on (acts.Confirm confirm) 0) (sets_hash hash confirm))
 both_runs_0 m n t hash confirm b x e f =
     let p = both_places m n in
-    some_map (RunsIs (known_mounted m).layout hash b) (SameHere p t (acts_on (acts.Confirm confirm) 0) (sets_hash hash confirm)) x
+    IfSome-map (RunsIs (known_mounted m).layout hash b) (SameHere p t (acts_on (acts.Confirm confirm) 0) (sets_hash hash confirm)) x
     (λ u k. first_runs p t hash confirm u (runs_there p t 0 (known_mounted m).layout hash true u refl (subst (λ (q : Bool). RunsIs (known_mounted m).layout hash q u) e k))) f
 
 pub both_runs_1 : (m n : Mounted) (t : ℕ) (hash : List ℕ) (confirm b c : Bool) (x y : Option (List ℕ)) → y ≡ x → b ≡ false → c ≡ true → IfSome x (RunsIs (known_mounted m).layout hash b) → IfSome y (RunsIs (known_mounted n).layout hash c)
     → IfSome x (SameHere (both_places m n) t (acts_on (acts.Confirm confirm) 1) (sets_hash hash confirm))
 both_runs_1 m n t hash confirm b c x y kept e g f h =
     let p = both_places m n in
-    some_two (RunsIs (known_mounted m).layout hash b) (RunsIs (known_mounted n).layout hash c) (SameHere p t (acts_on (acts.Confirm confirm) 1) (sets_hash hash confirm)) x
+    both_some (RunsIs (known_mounted m).layout hash b) (RunsIs (known_mounted n).layout hash c) (SameHere p t (acts_on (acts.Confirm confirm) 1) (sets_hash hash confirm)) x
     (λ u k l. second_runs p t hash confirm u (runs_there p t 0 (known_mounted m).layout hash false u refl (subst (λ (q : Bool). RunsIs (known_mounted m).layout hash q u) e k))
     (runs_there p t 1 (known_mounted n).layout hash true u refl (subst (λ (q : Bool). RunsIs (known_mounted n).layout hash q u) g l))) f
     (subst (λ (z : Option (List ℕ)). IfSome z (RunsIs (known_mounted n).layout hash c)) kept h)
 
 pub both_holds_0 : (p : Places) (t : ℕ) (hash : List ℕ) (confirm b c e f : Bool) (mark : Mark) (x : Option (List ℕ)) → mark ≡ mark_of confirm → b ≡ false → c ≡ false → e ≡ true → IfSome x (Four p t hash b c e f)
     → IfSome x (SameHere p t (acts_on (acts.Mark mark) 0) (sets_hash hash confirm))
-both_holds_0 p t hash confirm b c e f mark x is eb ec ee k = some_map (Four p t hash b c e f) (SameHere p t (acts_on (acts.Mark mark) 0) (sets_hash hash confirm)) x
+both_holds_0 p t hash confirm b c e f mark x is eb ec ee k = IfSome-map (Four p t hash b c e f) (SameHere p t (acts_on (acts.Mark mark) 0) (sets_hash hash confirm)) x
     (λ u w. first_holds p t hash confirm mark u is (λ d st. w.runs_0 d st ∙ eb) (λ d st. w.runs_1 d st ∙ ec) (λ d st. w.holds_0 d st ∙ ee)) k
 
 pub both_holds_1 : (p : Places) (t : ℕ) (hash : List ℕ) (confirm b c e f : Bool) (mark : Mark) (x : Option (List ℕ)) → mark ≡ mark_of confirm → b ≡ false → c ≡ false → e ≡ false → f ≡ true → IfSome x (Four p t hash b c e f)
     → IfSome x (SameHere p t (acts_on (acts.Mark mark) 1) (sets_hash hash confirm))
-both_holds_1 p t hash confirm b c e f mark x is eb ec ee ef k = some_map (Four p t hash b c e f) (SameHere p t (acts_on (acts.Mark mark) 1) (sets_hash hash confirm)) x
+both_holds_1 p t hash confirm b c e f mark x is eb ec ee ef k = IfSome-map (Four p t hash b c e f) (SameHere p t (acts_on (acts.Mark mark) 1) (sets_hash hash confirm)) x
     (λ u w. second_holds p t hash confirm mark u is (λ d st. w.runs_0 d st ∙ eb) (λ d st. w.runs_1 d st ∙ ec) (λ d st. w.holds_0 d st ∙ ee) (λ d st. w.holds_1 d st ∙ ef)) k
 
 -- an act behind one read, and behind two
@@ -303,7 +301,7 @@ both_failed_0 m n t l held images r respond fault a b says calls kept e f g h =
     let un = unknown_is m l held e f in
     as_replied p t respond r images known (Err (of_call fault)) a b h g
     (quiet_broken p 0 t respond known 0 fault (of_call fault) a b (λ i. record { first = held_layout (un i); second = Some (known_mounted n).layout }) refl refl (unknown_unmounted (known_mounted m).layout held un) (read_fell p 0 0 p.first fault a b refl calls) (calls_at p 0 p.first (fault_end fault) a b refl calls) kept
-    (some_map (SettledSay (both_settled m n t)) (ImagesSay known) a.bytes (λ v s. record { first = unknown_says m held v un s.first; second = s.second }) says))
+    (IfSome-map (SettledSay (both_settled m n t)) (ImagesSay known) a.bytes (λ v s. record { first = unknown_says m held v un s.first; second = s.second }) says))
 
 pub both_failed_1 : (m n : Mounted) (t : ℕ) (l : Layout) (held : Held) (images : Images) (r : Replied) (respond : AbstractDevice → Response) (fault : CallFault) (a b c : FlashState) → IfSome a.bytes (SettledSay (both_settled m n t))
     → Calls (area_spot (slot_of (known_mounted m).layout 0) ∷ []) Went a b → b.bytes ≡ a.bytes → Calls (area_spot (slot_of (known_mounted n).layout 0) ∷ []) (fault_end fault) b c → c.bytes ≡ b.bytes → held ≡ unknown_at l → l ≡ (known_mounted n).layout
@@ -316,7 +314,7 @@ both_failed_1 m n t l held images r respond fault a b c says calls kept more sti
     (quiet_broken p 0 t respond known 1 fault (of_call fault) a c (λ i. record { first = (known_mounted m).layout; second = Some (held_layout (un i)) }) refl refl (unknown_unmounted (known_mounted n).layout held un)
     (read_fell_then p 0 1 (known_mounted n).layout fault a b c refl (calls_at p 0 p.first Went a b refl calls) kept more)
     (Calls-after (spots_of p) (fault_end fault) a b c (calls_at p 0 p.first Went a b refl calls) (calls_at p 1 (known_mounted n).layout (fault_end fault) b c refl more)) (still ∙ kept)
-    (some_map (SettledSay (both_settled m n t)) (ImagesSay known) a.bytes (λ v s. record { first = s.first; second = unknown_says n held v un s.second }) says))
+    (IfSome-map (SettledSay (both_settled m n t)) (ImagesSay known) a.bytes (λ v s. record { first = s.first; second = unknown_says n held v un s.second }) says))
 
 pub both_none : (m n : Mounted) (t : ℕ) (hash : List ℕ) (confirm b c e f : Bool) (images : Images) (r : Replied) (x y z : FlashState) → b ≡ false → c ≡ false → e ≡ false → f ≡ false → IfSome x.bytes (Four (both_places m n) t hash b c e f)
     → Calls (area_spot (slot_of (known_mounted m).layout 0) ∷ []) Went x y → y.bytes ≡ x.bytes → Calls (area_spot (slot_of (known_mounted n).layout 0) ∷ []) Went y z → z.bytes ≡ y.bytes → IfSome x.bytes (SettledSay (both_settled m n t))
@@ -327,8 +325,8 @@ both_none m n t hash confirm b c e f images r x y z eb ec ee ef four calls kept 
     let known : Images = record { zero = helds.Mounted m; one = Some (helds.Mounted n); target = t } in
     as_replied p t (sets_hash hash confirm) r images known (Ok (replied.GroupError 1 8)) x z h g
     (quiet p 0 t (sets_hash hash confirm) known (replied.GroupError 1 8) x z refl refl (Calls-after (spots_of p) Went x y z (calls_at p 0 p.first Went x y refl calls) (calls_at p 1 (known_mounted n).layout Went y z refl more)) (still ∙ kept)
-    (some_map (SettledSay (both_settled m n t)) (ImagesSay known) x.bytes (λ v s. record { first = s.first; second = s.second }) says)
-    (some_map (Four p t hash b c e f) (λ u. (d : AbstractDevice) → ImagesStand p t d u → sets_hash hash confirm d ≡ reply_alone (said_of (replied.GroupError 1 8))) x.bytes
+    (IfSome-map (SettledSay (both_settled m n t)) (ImagesSay known) x.bytes (λ v s. record { first = s.first; second = s.second }) says)
+    (IfSome-map (Four p t hash b c e f) (λ u. (d : AbstractDevice) → ImagesStand p t d u → sets_hash hash confirm d ≡ reply_alone (said_of (replied.GroupError 1 8))) x.bytes
     (λ u w d stands. sym (none_has p t hash confirm u (λ k st. w.runs_0 k st ∙ eb) (λ k st. w.runs_1 k st ∙ ec) (λ k st. w.holds_0 k st ∙ ee) (λ k st. w.holds_1 k st ∙ ef) d stands)) four))
 
 -- The request.

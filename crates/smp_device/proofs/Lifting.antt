@@ -2,14 +2,11 @@
 use Rattle.std.proofs.Common.{◌≡◌, ◌⊎◌, inl, inr, ℕ, zero, suc, ◌+◌, ◌≤◌, Bool, true, false, Option, Some, None, List, [], ◌∷◌, ◌++◌, length, ◌==◌, nat_lt, Result, Ok, Err, refl, sym, ◌∙◌, ap, subst, arith, if◌then◌else◌}
 use Rattle.std.specs.Prelude.{IfSome, OnOk, IfOk, option_map}
 use Rattle.smp_flash.specs.Area.{Told, Keeps}
-use Rattle.smp_flash.specs.Calls.{Calls}
 use Rattle.smp_flash.specs.Layout.{progress_of}
 use Rattle.smp_flash.specs.State.{FlashState}
 use Rattle.smp_flash.specs.declared.geometry.Geometry.{Geometry}
 use Rattle.smp_flash.specs.declared.layout.Layout.{Layout}
-use Rattle.smp_flash.proofs.Passing.{Calls-wider}
-use Rattle.smp_flash.proofs.Telling.{Told-map}
-use Rattle.smp_gate.specs.Newest.{AgesAtMost, newest_generation}
+use Rattle.smp_gate.specs.Newest.{newest_generation}
 use Rattle.smp_progress.specs.State.{CanTake}
 use Rattle.smp_model.specs.declared.device.AbstractDevice.{AbstractDevice}
 use Rattle.smp_model.specs.declared.device.Side.{Side}
@@ -19,28 +16,25 @@ use Rattle.smp_model.specs.declared.reply.Reply.TheVariants as replied
 use Rattle.smp_model.specs.declared.upload.Announcement.{Announcement}
 use Rattle.smp_model.specs.declared.upload.Mark.{Mark}
 use Rattle.smp_model.specs.ImageGroup.{is_offset, start_at, takes_part, keeps, completes, begins, new_start, resumes, refuses_part}
-use Rattle.smp_model.specs.Response.{Response, SideResponse, side_responds}
+use Rattle.smp_model.specs.Response.{SideResponse, side_responds}
 use Rattle.smp_model.specs.Said.{Said, said_of, is_error}
 use Rattle.smp_model.specs.Said as said
 use Rattle.smp_model.specs.Sides.{SideStep, Choose, Append, Drop, side_applied, side_settle_steps, side_settle}
 use Rattle.smp_model.specs.Steps.{Step, Run, aim_at, apply, applied, on_side, side_at, with_side, Part}
 use Rattle.smp_model.specs.Uploads.{differs, kept, is_resumed_by}
 use Rattle.smp_upload.specs.Bytes.{SideStands, SideShows, Apart}
-use Rattle.smp_upload.specs.Faults.{upload_fault_end}
-use Rattle.smp_upload.specs.Moves.{Moves, Does, Moved, Done, KeepsPending, mount_spots}
+use Rattle.smp_upload.specs.Moves.{Moves, Does, Done, mount_spots}
 use Rattle.smp_upload.specs.declared.states.UploadFault.{UploadFault}
 use Rattle.smp_upload.specs.declared.states.UploadFault.TheVariants as faults
-use Rattle.smp_upload.proofs.Composing.{shows_stands, ages_more}
-use Rattle.smp_side.specs.Held.{Answers, Caused, ResultCaused, Tells, Tried, result_end, responds_after, steps_by}
-use Rattle.smp_side.specs.declared.held.Handed.{Handed}
-use Rattle.smp_side.proofs.Answering.{answers_after}
+use Rattle.smp_upload.proofs.Composing.{shows_stands}
+use Rattle.smp_side.specs.Held.{Caused, ResultCaused, Tells, Tried, responds_after, steps_by}
 use Rattle.smp_device.specs.Answers.{ImagesMove, ImagesDo, ImagesTell, ImagesCaused, ResultCausedIn}
 use Rattle.smp_device.specs.Laws.{Laws}
-use Rattle.smp_device.specs.Places.{Places, ArePlaces, place_at, spots_of, StandsAt, ImagesStand, AtEach}
+use Rattle.smp_device.specs.Places.{Places, ArePlaces, place_at, StandsAt, ImagesStand}
 use Rattle.smp_device.specs.Requests.{side_response, between, responds_of, responds_on, target_by, moved_target}
 use Rattle.smp_device.specs.declared.images.SideRequest.{SideRequest}
 use Rattle.smp_device.specs.declared.images.SideRequest.TheVariants as asks
-use Rattle.smp_device.proofs.Parting.{eq_or_not, apart_of, covers_at, ages_each, pending_each}
+use Rattle.smp_device.proofs.Parting.{eq_or_not, apart_of}
 
 -- The side at a place.
 
@@ -217,20 +211,12 @@ applied_append [] t d = refl
 applied_append (x ∷ s) t d = applied_append s t (apply x d)
 
 -- One image's call, lifted.
-pub record Lifted (p : Places) (n before : ℕ) (respond : AbstractDevice → Response) (target : ℕ) (result : Result Reply UploadFault) (a b : FlashState) : Type 0 where
-  pub calls : Calls (spots_of p) (result_end result) a b
-  pub moves : Told (ImagesMove p before target respond) a.bytes b.bytes
-  pub done : OnOk result (Told (ImagesDo p before target respond) a.bytes b.bytes)
-  pub said : IfOk result (ImagesTell p before respond a.bytes)
-  pub ages : AtEach (λ l. Told (AgesAtMost n (progress_of l)) a.bytes b.bytes) p
-  pub pending : AtEach (λ l. Told (KeepsPending l) a.bytes b.bytes) p
-  pub caused : ResultCausedIn p n result a.bytes
 
 -- what the request comes to, of the side that is found
-abbrev settled_response : (unit : ℕ) → SideRequest → Side → SideResponse
+abbrev pub settled_response : (unit : ℕ) → SideRequest → Side → SideResponse
 settled_response unit request side = side_response unit request (side_settle side)
 
-moves_one : Laws → (g : Geometry) (p : Places) → ArePlaces g p → (unit : ℕ) (request : SideRequest) (i : ℕ) (l : Layout) → place_at i p ≡ Some l → (t : ℕ) (r : Result Reply UploadFault) (old middle new : List ℕ)
+pub moves_one : Laws → (g : Geometry) (p : Places) → ArePlaces g p → (unit : ℕ) (request : SideRequest) (i : ℕ) (l : Layout) → place_at i p ≡ Some l → (t : ℕ) (r : Result Reply UploadFault) (old middle new : List ℕ)
     → Does l side_settle_steps old middle → Moves l (steps_by (side_response unit request)) middle new → Keeps (mount_spots l) old new
     → ((side : Side) → SideStands l side old → Known r (settled_response unit request side).reply)
     → ImagesMove p t (moved_target t i request r) (responds_on unit request i) old new
@@ -289,7 +275,7 @@ does_one laws g p are unit request i l at t r old middle new does then_does keep
     subst (λ (o : Option Side). ImagesStand p (moved_target t i request r) (applied (responds_of unit request i o).steps d) new) (sym h.found) there
 
 -- a mount alone: some first steps of settling
-mounts_one : Laws → (g : Geometry) (p : Places) → ArePlaces g p → (unit : ℕ) (request : SideRequest) (i : ℕ) (l : Layout) → place_at i p ≡ Some l → (t : ℕ) (old new : List ℕ)
+pub mounts_one : Laws → (g : Geometry) (p : Places) → ArePlaces g p → (unit : ℕ) (request : SideRequest) (i : ℕ) (l : Layout) → place_at i p ≡ Some l → (t : ℕ) (old new : List ℕ)
     → Moves l side_settle_steps old new → Keeps (mount_spots l) old new → ImagesMove p t t (responds_on unit request i) old new
 mounts_one laws g p are unit request i l at t old new moves keeps = λ d stands.
     let h = side_here p t i l d old at stands in
@@ -310,7 +296,7 @@ mounts_one laws g p are unit request i l at t old new moves keeps = λ d stands.
 
 -- as far as the bytes are told
 
-told_moves : (R S T K : List ℕ → List ℕ → Type 0) (P : List ℕ → Type 0) (x y z : Option (List ℕ)) → ((u v w : List ℕ) → R u v → S v w → K u w → P u → T u w) → Told R x y → Told S y z → Told K x z → IfSome x P → Told T x z
+pub told_moves : (R S T K : List ℕ → List ℕ → Type 0) (P : List ℕ → Type 0) (x y z : Option (List ℕ)) → ((u v w : List ℕ) → R u v → S v w → K u w → P u → T u w) → Told R x y → Told S y z → Told K x z → IfSome x P → Told T x z
 told_moves R S T K P None None None f a b k q = tt
 told_moves R S T K P None None (Some w) f a b k q = absurd b
 told_moves R S T K P None (Some v) z f a b k q = absurd a
@@ -325,7 +311,7 @@ told_two R K T (Some u) None f a b = absurd a
 told_two R K T (Some u) (Some v) f a b = f u v a b
 
 -- the reply is known, or that it is no error
-known_by : (l : Layout) (respond : Side → SideResponse) (r : Result Reply UploadFault) (x : Option (List ℕ)) → IfOk r (Tells l (responds_after side_settle_steps respond) x) → Tried l (responds_after side_settle_steps respond) r x
+pub known_by : (l : Layout) (respond : Side → SideResponse) (r : Result Reply UploadFault) (x : Option (List ℕ)) → IfOk r (Tells l (responds_after side_settle_steps respond) x) → Tried l (responds_after side_settle_steps respond) r x
     → IfSome x (λ u. (side : Side) → SideStands l side u → Known r (respond (side_settle side)).reply)
 known_by l respond (Ok reply) x s t = s
 known_by l respond (Err fault) x s t = t
@@ -337,7 +323,7 @@ tells_one p unit request i l t reply (Some u) at s = λ d stands.
     let h = side_here p t i l d u at stands in
     s h.side h.stands ∙ ap (λ (o : Option Side). (responds_of unit request i o).reply) (sym h.found)
 
-said_one : (p : Places) (unit : ℕ) (request : SideRequest) (i : ℕ) (l : Layout) (t : ℕ) (r : Result Reply UploadFault) (x : Option (List ℕ)) → place_at i p ≡ Some l
+pub said_one : (p : Places) (unit : ℕ) (request : SideRequest) (i : ℕ) (l : Layout) (t : ℕ) (r : Result Reply UploadFault) (x : Option (List ℕ)) → place_at i p ≡ Some l
     → IfOk r (Tells l (responds_after side_settle_steps (side_response unit request)) x) → IfOk r (ImagesTell p t (responds_on unit request i) x)
 said_one p unit request i l t (Ok reply) x at s = tells_one p unit request i l t reply x at s
 said_one p unit request i l t (Err fault) x at s = tt
@@ -348,11 +334,11 @@ caused_one p i l n faults.Worn x at c = record { image = i; layout = l; place = 
 caused_one p i l n (faults.Fault operation) x at c = tt
 caused_one p i l n faults.Off x at c = tt
 
-result_one : (p : Places) (i : ℕ) (l : Layout) (n : ℕ) (r : Result Reply UploadFault) (x : Option (List ℕ)) → place_at i p ≡ Some l → ResultCaused l n r x → ResultCausedIn p n r x
+pub result_one : (p : Places) (i : ℕ) (l : Layout) (n : ℕ) (r : Result Reply UploadFault) (x : Option (List ℕ)) → place_at i p ≡ Some l → ResultCaused l n r x → ResultCausedIn p n r x
 result_one p i l n (Ok reply) x at c = tt
 result_one p i l n (Err fault) x at c = caused_one p i l n fault x at c
 
-does_ok : Laws → (g : Geometry) (p : Places) → ArePlaces g p → (unit : ℕ) (request : SideRequest) (i : ℕ) (l : Layout) → place_at i p ≡ Some l → (t : ℕ) (r : Result Reply UploadFault) (a b c : FlashState)
+pub does_ok : Laws → (g : Geometry) (p : Places) → ArePlaces g p → (unit : ℕ) (request : SideRequest) (i : ℕ) (l : Layout) → place_at i p ≡ Some l → (t : ℕ) (r : Result Reply UploadFault) (a b c : FlashState)
     → Told (Does l side_settle_steps) a.bytes b.bytes → OnOk r (Done l (mount_spots l) 3 (steps_by (side_response unit request)) b c) → Told (Keeps (mount_spots l)) a.bytes c.bytes
     → IfSome a.bytes (λ u. (side : Side) → SideStands l side u → Known r (settled_response unit request side).reply)
     → OnOk r (Told (ImagesDo p t (moved_target t i request r) (responds_on unit request i)) a.bytes c.bytes)
@@ -362,25 +348,7 @@ does_ok laws g p are unit request i l at t (Ok reply) a b c f h k q =
     (λ u. (side : Side) → SideStands l side u → Known (Ok reply) (settled_response unit request side).reply) a.bytes b.bytes c.bytes
     (λ u v w. does_one laws g p are unit request i l at t (Ok reply) u v w) f h.does k q
 
--- a side that was mounted, and asked
-pub lifted : Laws → (g : Geometry) (p : Places) → ArePlaces g p → (unit : ℕ) (request : SideRequest) (i : ℕ) (l : Layout) → place_at i p ≡ Some l → (t : ℕ) (handed : Handed) (a b c : FlashState)
-    → Done l (mount_spots l) 2 side_settle_steps a b → Answers l 3 (side_response unit request) handed b c
-    → Lifted p 5 t (responds_on unit request i) (moved_target t i request handed.result) handed.result a c
-lifted laws g p are unit request i l at t handed a b c f h =
-    let both = answers_after l 2 3 side_settle_steps (side_response unit request) handed a b c f h in
-    let keeps = both.moved.calls.keeps in
-    let known = known_by l (side_response unit request) handed.result a.bytes both.said both.tried in
-    record {
-      calls = Calls-wider (spots_of p) (mount_spots l) (result_end handed.result) a c (covers_at p i l at) both.moved.calls;
-      moves = told_moves (Does l side_settle_steps) (Moves l (steps_by (side_response unit request))) (ImagesMove p t (moved_target t i request handed.result) (responds_on unit request i)) (Keeps (mount_spots l))
-          (λ u. (side : Side) → SideStands l side u → Known handed.result (settled_response unit request side).reply) a.bytes b.bytes c.bytes
-          (λ u v w. moves_one laws g p are unit request i l at t handed.result u v w) f.does h.moved.moves keeps known;
-      done = does_ok laws g p are unit request i l at t handed.result a b c f.does h.done keeps known;
-      said = said_one p unit request i l t handed.result a.bytes at both.said;
-      ages = ages_each g p i l 5 a.bytes c.bytes are at both.moved.ages keeps;
-      pending = pending_each g p i l a.bytes c.bytes are at both.moved.pending keeps;
-      caused = result_one p i l 5 handed.result a.bytes at both.caused;
-    }
+-- a longer bound
 
 pub worn_more : (l : Layout) (m n : ℕ) (x : Option (List ℕ)) → m ≤ n → IfSome x (λ held. CanTake (newest_generation (progress_of l) held) m → ⊥) → IfSome x (λ held. CanTake (newest_generation (progress_of l) held) n → ⊥)
 worn_more l m n None le w = tt
@@ -391,23 +359,3 @@ caused_more l m n faults.Unformatted x le c = c
 caused_more l m n faults.Worn x le c = worn_more l m n x le c
 caused_more l m n (faults.Fault operation) x le c = tt
 caused_more l m n faults.Off x le c = tt
-
-lifted_lost_at : Laws → (g : Geometry) (p : Places) → ArePlaces g p → (unit : ℕ) (request : SideRequest) (i : ℕ) (l : Layout) → place_at i p ≡ Some l → (t : ℕ) (fault : UploadFault) (a b : FlashState)
-    → Moved l (mount_spots l) 2 side_settle_steps (upload_fault_end fault) a b → Caused l 2 fault a.bytes → Lifted p 5 t (responds_on unit request i) t (Err fault) a b
-lifted_lost_at laws g p are unit request i l at t fault a b m c =
-    let keeps = m.calls.keeps in
-    record {
-      calls = Calls-wider (spots_of p) (mount_spots l) (upload_fault_end fault) a b (covers_at p i l at) m.calls;
-      moves = told_two (Moves l side_settle_steps) (Keeps (mount_spots l)) (ImagesMove p t t (responds_on unit request i)) a.bytes b.bytes (λ u v. mounts_one laws g p are unit request i l at t u v) m.moves keeps;
-      done = tt;
-      said = tt;
-      ages = ages_each g p i l 5 a.bytes b.bytes are at (Told-map (AgesAtMost 2 (progress_of l)) (AgesAtMost 5 (progress_of l)) a.bytes b.bytes (λ u v. ages_more l 2 5 u v (omega arith)) m.ages) keeps;
-      pending = pending_each g p i l a.bytes b.bytes are at m.pending keeps;
-      caused = caused_one p i l 5 fault a.bytes at (caused_more l 2 5 fault a.bytes (omega arith) c);
-    }
-
--- a mount that was lost
-pub lifted_lost : Laws → (g : Geometry) (p : Places) → ArePlaces g p → (unit : ℕ) (request : SideRequest) (i : ℕ) (l : Layout) → place_at i p ≡ Some l → (t : ℕ) (fault : UploadFault) (result : Result Reply UploadFault) (a b : FlashState)
-    → result ≡ Err fault → Moved l (mount_spots l) 2 side_settle_steps (upload_fault_end fault) a b → Caused l 2 fault a.bytes → Lifted p 5 t (responds_on unit request i) t result a b
-lifted_lost laws g p are unit request i l at t fault result a b e m c =
-    subst (λ (r : Result Reply UploadFault). Lifted p 5 t (responds_on unit request i) t r a b) (sym e) (lifted_lost_at laws g p are unit request i l at t fault a b m c)

@@ -79,7 +79,7 @@ first_still laws g images are held e m l (Some u) (Some v) s k =
     let apart = apart_of g (places_of images) are 1 0 (held_layout held) (held_layout images.zero) (ap (option_map held_layout) e) refl one_zero in
     laws.say (known_mounted m) (mount_spots (held_layout held)) u v (subst (λ (x : Layout). Apart x (mount_spots (held_layout held))) (sym l) apart) k s
 
-both_some : (P Q R : List ℕ → Type 0) (x : Option (List ℕ)) → ((u : List ℕ) → P u → Q u → R u) → IfSome x P → IfSome x Q → IfSome x R
+pub both_some : (P Q R : List ℕ → Type 0) (x : Option (List ℕ)) → ((u : List ℕ) → P u → Q u → R u) → IfSome x P → IfSome x Q → IfSome x R
 both_some P Q R None step p q = tt
 both_some P Q R (Some u) step p q = step u p q
 

@@ -6,6 +6,7 @@ pub mod Uploads
 pub mod Settling
 pub mod Setting
 pub mod Mounts
+pub mod Asked
 pub mod Goings
 pub mod Up
 pub mod Serving

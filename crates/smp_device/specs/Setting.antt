@@ -1,16 +1,18 @@
 -- Marks and confirmations by the hash of an image.
-use Rattle.std.specs.Prelude.{◌≡◌, ℕ, Bool, true, false, List, Option, Some, None, Result, IsSome}
+use Rattle.std.specs.Prelude.{◌≡◌, ℕ, Bool, true, false, List, Option, Some, None, Result, Ok, Err, IsSome}
 use Rattle.smp_model.specs.declared.device.AbstractDevice.{AbstractDevice}
 use Rattle.smp_model.specs.declared.device.Side.{Side}
+use Rattle.smp_model.specs.declared.reply.Reply.{Reply}
 use Rattle.smp_model.specs.declared.error.TheConstants.{HASH_NOT_FOUND}
 use Rattle.smp_model.specs.ImageGroup.{confirms, lists_with, marks, refuses_image, runs}
 use Rattle.smp_model.specs.Response.{Response}
-use Rattle.smp_model.specs.Said.{Said}
+use Rattle.smp_model.specs.Said.{Said, said_of}
 use Rattle.smp_model.specs.Said as said
 use Rattle.smp_model.specs.Sides.{SideStep}
 use Rattle.smp_model.specs.Steps.{side_at}
 use Rattle.smp_upload.specs.States.{known_mounted}
 use Rattle.smp_upload.specs.declared.states.Mounted.{Mounted}
+use Rattle.smp_upload.specs.declared.states.UploadFault.{UploadFault}
 use Rattle.smp_flash.specs.declared.layout.Layout.{Layout}
 use Rattle.smp_upload.specs.Bytes.{SideStands}
 use Rattle.smp_device.specs.declared.sets.Act.{Act}
@@ -41,3 +43,8 @@ RunsIs layout hash b bytes = (side : Side) → SideStands layout side bytes → 
 abbrev pub is_empty : Said → Bool
 is_empty said.empty = true
 is_empty other = false
+
+-- the act is done, and the list is due
+abbrev pub is_done : Result Reply UploadFault → Bool
+is_done (Ok reply) = is_empty (said_of reply)
+is_done (Err fault) = false

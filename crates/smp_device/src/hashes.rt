@@ -22,8 +22,8 @@ ghost use Rattle.smp_device.specs.declared.sets.Act.TheVariants as acts;
 use crate::images::{Images, Replied};
 use crate::laws::side_laws;
 use crate::lists::unknown;
-use crate::sets::{Act, act_alone, act_one, act_zero, with_second};
-use crate::settled::{Settled, alone, settle_all};
+use crate::sets::{Act, act_first, act_second, with_second};
+use crate::settled::{Settled, alone, both, settle_all};
 use crate::uploads::refused;
 use smp_flash::{CallFault, Flash};
 use smp_model::error::{HASH_NOT_FOUND, INVALID_DIGEST, INVALID_VALUE};
@@ -104,10 +104,12 @@ fn set_alone<F: Flash>(
         }
     };
     if runs {
-        return act_alone(zero, target, flash, Act::Confirm(confirm));
+        let settled = alone(zero, target);
+        return act_first(settled, flash, Act::Confirm(confirm));
     }
     if holds_at(&zero, hash) {
-        return act_alone(zero, target, flash, Act::Mark(mark_of(confirm)));
+        let settled = alone(zero, target);
+        return act_first(settled, flash, Act::Mark(mark_of(confirm)));
     }
     let images = Images {
         zero: Held::Mounted(zero),
@@ -141,7 +143,8 @@ fn set_both<F: Flash>(
         }
     };
     if first {
-        return act_zero(zero, one, target, flash, Act::Confirm(confirm));
+        let settled = both(zero, one, target);
+        return act_first(settled, flash, Act::Confirm(confirm));
     }
     let second = match runs_at(&one, flash, hash) {
         Ok(runs) => runs,
@@ -151,13 +154,14 @@ fn set_both<F: Flash>(
         }
     };
     if second {
-        return act_one(zero, one, target, flash, Act::Confirm(confirm));
+        return act_second(zero, one, target, flash, Act::Confirm(confirm));
     }
     if holds_at(&zero, hash) {
-        return act_zero(zero, one, target, flash, Act::Mark(mark_of(confirm)));
+        let settled = both(zero, one, target);
+        return act_first(settled, flash, Act::Mark(mark_of(confirm)));
     }
     if holds_at(&one, hash) {
-        return act_one(zero, one, target, flash, Act::Mark(mark_of(confirm)));
+        return act_second(zero, one, target, flash, Act::Mark(mark_of(confirm)));
     }
     let images = with_second(Held::Mounted(zero), Held::Mounted(one), target);
     refused(images, HASH_NOT_FOUND)
@@ -180,20 +184,6 @@ fn set_settled<F: Flash>(settled: Settled, flash: &mut F, hash: &[u8], confirm: 
     }
 }
 
-/// Image 0 is confirmed, where all images are mounted.
-fn confirm_settled<F: Flash>(settled: Settled, flash: &mut F) -> Replied
-    requires places { ArePlaces (F.state flash.old).geometry (settled_places settled) }
-    requires says { IfSome (F.state flash.old).bytes (SettledSay settled) }
-    ensures answers { ImagesAnswer (settled_places settled) 0 settled.target (acts_on (acts.Confirm true) 0) result.images result.result (F.state flash.old) (F.state flash.new) }
-    ensures mounts { MountsSettled result.images.zero result.images.one (is_ok result.result) }
-{
-    let Settled { zero, one, target } = settled;
-    match one {
-        None => act_alone(zero, target, flash, Act::Confirm(true)),
-        Some(one) => act_zero(zero, one, target, flash, Act::Confirm(true)),
-    }
-}
-
 /// No hash: the image that runs as image 0 is meant, and it can only be confirmed.
 fn set_running<F: Flash>(images: Images, flash: &mut F, confirm: bool) -> Replied
     requires places { ArePlaces (F.state flash.old).geometry (places_of images) }
@@ -210,7 +200,7 @@ fn set_running<F: Flash>(images: Images, flash: &mut F, confirm: bool) -> Replie
         };
     }
     match settle_all(images, flash) {
-        Ok(settled) => confirm_settled(settled, flash),
+        Ok(settled) => act_first(settled, flash, Act::Confirm(true)),
         Err(replied) => replied,
     }
 }

@@ -20,6 +20,14 @@ pub struct Replied {
     pub result: Result<Reply<'static>, UploadFault>,
 }
 
+/// What a request about one image hands back: its side, the target, and the reply or the fault that broke it off.
+#[derive(Drop)]
+pub struct Asked {
+    pub held: Held,
+    pub target: u32,
+    pub result: Result<Reply<'static>, UploadFault>,
+}
+
 /// A request about one image, of which all is right but what its side has to tell.
 #[derive(Clone, Copy, Debug)]
 pub enum SideRequest<'a> {

@@ -2,24 +2,23 @@
 
 ghost use Rattle.std.specs.Prelude.{◌≡◌, true, Some, IfSome};
 ghost use Rattle.smp_flash.specs.Layout.{geometry_of};
-ghost use Rattle.smp_model.specs.Said.{said_of};
 ghost use Rattle.smp_side.specs.Held.{Answers, is_mounted, is_ok, response_of};
 ghost use Rattle.smp_side.specs.declared.held.Held.TheVariants as helds;
 ghost use Rattle.smp_upload.specs.States.{Says, known_mounted};
 ghost use Rattle.smp_device.specs.Answers.{ImagesAnswer};
 ghost use Rattle.smp_device.specs.Mounts.{MountsSettled};
 ghost use Rattle.smp_device.specs.Places.{ArePlaces};
-ghost use Rattle.smp_device.specs.Setting.{CanAct, act_steps, acts_on, is_empty};
-ghost use Rattle.smp_device.specs.Settling.{SettledSay, alone_places, alone_settled, both_places, both_settled};
+ghost use Rattle.smp_device.specs.Setting.{CanAct, act_steps, acts_on, is_done};
+ghost use Rattle.smp_device.specs.Settling.{SettledSay, both_places, both_settled, settled_places};
 
 use crate::images::{Images, Replied};
 use crate::laws::side_laws;
 use crate::lists::list_settled;
-use crate::settled::Settled;
+use crate::settled::{Settled, held_of};
 use smp_flash::Flash;
 use smp_model::{Mark, Reply};
 use smp_side::{Handed, Held, confirm, mark};
-use smp_upload::Mounted;
+use smp_upload::{Mounted, UploadFault};
 
 /// What is to be done with an image.
 #[derive(Clone, Copy, Debug)]
@@ -54,53 +53,16 @@ fn mounted_of(held: Held) -> Mounted
     }
 }
 
-/// The reply says that it is done.
-fn is_empty(reply: &Reply<'static>) -> bool
-    ensures { result ≡ is_empty (said_of reply.now) }
+/// It is done: the reply has nothing to say.
+fn is_done(answer: &Result<Reply<'static>, UploadFault>) -> bool
+    ensures { result ≡ is_done answer.now }
 {
-    match reply {
-        Reply::Empty => true,
-        _ => false,
-    }
-}
-
-/// Does it on the image of a device of one, and lists the images.
-pub fn act_alone<F: Flash>(zero: Mounted, target: u32, flash: &mut F, act: Act) -> Replied
-    requires places { ArePlaces (F.state flash.old).geometry (alone_places zero) }
-    requires says { IfSome (F.state flash.old).bytes (SettledSay (alone_settled zero target)) }
-    requires can { CanAct act zero }
-    ensures answers { ImagesAnswer (alone_places zero) 0 target (acts_on act 0) result.images result.result (F.state flash.old) (F.state flash.new) }
-    ensures mounts { MountsSettled result.images.zero result.images.one (is_ok result.result) }
-{
-    side_laws();
-    let handed = act_on(zero, flash, act);
-    match handed.result {
-        Err(fault) => Replied {
-            images: Images {
-                zero: handed.held,
-                one: None,
-                target,
-            },
-            result: Err(fault),
+    match answer {
+        Ok(reply) => match reply {
+            Reply::Empty => true,
+            _ => false,
         },
-        Ok(reply) => {
-            if !is_empty(&reply) {
-                return Replied {
-                    images: Images {
-                        zero: handed.held,
-                        one: None,
-                        target,
-                    },
-                    result: Ok(reply),
-                };
-            }
-            let settled = Settled {
-                zero: mounted_of(handed.held),
-                one: None,
-                target,
-            };
-            list_settled(settled, flash)
-        }
+        Err(_) => false,
     }
 }
 
@@ -115,46 +77,37 @@ pub fn with_second(zero: Held, one: Held, target: u32) -> Images
     }
 }
 
-/// Does it on image 0 of two, and lists the images.
-pub fn act_zero<F: Flash>(
-    zero: Mounted,
-    one: Mounted,
-    target: u32,
-    flash: &mut F,
-    act: Act,
-) -> Replied
-    requires places { ArePlaces (F.state flash.old).geometry (both_places zero one) }
-    requires says { IfSome (F.state flash.old).bytes (SettledSay (both_settled zero one target)) }
-    requires can { CanAct act zero }
-    ensures answers { ImagesAnswer (both_places zero one) 0 target (acts_on act 0) result.images result.result (F.state flash.old) (F.state flash.new) }
+/// Does it on image 0, and lists the images.
+pub fn act_first<F: Flash>(settled: Settled, flash: &mut F, act: Act) -> Replied
+    requires places { ArePlaces (F.state flash.old).geometry (settled_places settled) }
+    requires says { IfSome (F.state flash.old).bytes (SettledSay settled) }
+    requires can { CanAct act settled.zero }
+    ensures answers { ImagesAnswer (settled_places settled) 0 settled.target (acts_on act 0) result.images result.result (F.state flash.old) (F.state flash.new) }
     ensures mounts { MountsSettled result.images.zero result.images.one (is_ok result.result) }
 {
     side_laws();
+    let Settled { zero, one, target } = settled;
     let handed = act_on(zero, flash, act);
-    match handed.result {
-        Err(fault) => Replied {
-            images: with_second(handed.held, Held::Mounted(one), target),
-            result: Err(fault),
-        },
-        Ok(reply) => {
-            if !is_empty(&reply) {
-                return Replied {
-                    images: with_second(handed.held, Held::Mounted(one), target),
-                    result: Ok(reply),
-                };
-            }
-            let settled = Settled {
-                zero: mounted_of(handed.held),
-                one: Some(one),
+    if !is_done(&handed.result) {
+        return Replied {
+            images: Images {
+                zero: handed.held,
+                one: held_of(one),
                 target,
-            };
-            list_settled(settled, flash)
-        }
+            },
+            result: handed.result,
+        };
     }
+    let settled = Settled {
+        zero: mounted_of(handed.held),
+        one,
+        target,
+    };
+    list_settled(settled, flash)
 }
 
 /// Does it on image 1, and lists the images.
-pub fn act_one<F: Flash>(
+pub fn act_second<F: Flash>(
     zero: Mounted,
     one: Mounted,
     target: u32,
@@ -169,24 +122,16 @@ pub fn act_one<F: Flash>(
 {
     side_laws();
     let handed = act_on(one, flash, act);
-    match handed.result {
-        Err(fault) => Replied {
+    if !is_done(&handed.result) {
+        return Replied {
             images: with_second(Held::Mounted(zero), handed.held, target),
-            result: Err(fault),
-        },
-        Ok(reply) => {
-            if !is_empty(&reply) {
-                return Replied {
-                    images: with_second(Held::Mounted(zero), handed.held, target),
-                    result: Ok(reply),
-                };
-            }
-            let settled = Settled {
-                zero,
-                one: Some(mounted_of(handed.held)),
-                target,
-            };
-            list_settled(settled, flash)
-        }
+            result: handed.result,
+        };
     }
+    let settled = Settled {
+        zero,
+        one: Some(mounted_of(handed.held)),
+        target,
+    };
+    list_settled(settled, flash)
 }

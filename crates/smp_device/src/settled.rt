@@ -1,10 +1,11 @@
 //! All images of a device, mounted.
 
-ghost use Rattle.std.specs.Prelude.{◌≡◌, false, IfErr, IfOk, IfSome, OnOk};
+ghost use Rattle.std.specs.Prelude.{◌≡◌, false, IfErr, IfOk, IfSome, OnOk, option_map};
 ghost use Rattle.smp_side.specs.Held.{is_ok};
+ghost use Rattle.smp_side.specs.declared.held.Held.TheVariants as helds;
 ghost use Rattle.smp_device.specs.Mounts.{KeepsOthers};
 ghost use Rattle.smp_device.specs.Places.{ArePlaces, ImagesSay, places_of};
-ghost use Rattle.smp_device.specs.Settling.{SettledSay, Settles, Unsettled, alone_settled, settled_places};
+ghost use Rattle.smp_device.specs.Settling.{SettledSay, Settles, Unsettled, alone_settled, both_settled, settled_places};
 
 use crate::images::{Images, Replied};
 use crate::laws::side_laws;
@@ -28,6 +29,27 @@ pub fn alone(zero: Mounted, target: u32) -> Settled
         zero,
         one: None,
         target,
+    }
+}
+
+/// The images of a device of two.
+pub fn both(zero: Mounted, one: Mounted, target: u32) -> Settled
+    ensures { result ≡ both_settled zero one target }
+{
+    Settled {
+        zero,
+        one: Some(one),
+        target,
+    }
+}
+
+/// The image beside image 0, as it is held.
+pub fn held_of(one: Option<Mounted>) -> Option<Held>
+    ensures { result ≡ option_map helds.Mounted one }
+{
+    match one {
+        None => None,
+        Some(one) => Some(Held::Mounted(one)),
     }
 }
 

@@ -3,18 +3,19 @@
 ghost use Rattle.std.specs.Prelude.{◌≡◌, Err, None, IfErr, IfSome};
 ghost use Rattle.smp_flash.specs.Layout.{geometry_of};
 ghost use Rattle.smp_upload.specs.States.{Says, known_mounted};
-ghost use Rattle.smp_side.specs.Held.{Answers};
+ghost use Rattle.smp_side.specs.Held.{Answers, HeldSays, held_layout};
 ghost use Rattle.smp_device.specs.Answers.{ImagesAnswer};
+ghost use Rattle.smp_device.specs.Asked.{AskedAt};
 ghost use Rattle.smp_device.specs.Mounts.{FellIn, Untouched};
 ghost use Rattle.smp_device.specs.Places.{ArePlaces, ImagesSay, place_at, places_of};
 ghost use Rattle.smp_device.specs.Requests.{Erases, ErasesAt, IsStart, MountsOf, moved_target, responds_on, side_response};
 
-use crate::images::{Images, Replied, SideRequest};
+use crate::images::{Asked, Images, Replied, SideRequest};
 use crate::laws::side_laws;
 use smp_flash::Flash;
 use smp_model::Reply;
 use smp_model::error::{IMAGE_GROUP, INVALID_SLOT};
-use smp_side::{Handed, erase, lost, mounted, part_at, start};
+use smp_side::{Handed, Held, erase, lost, mounted, part_at, start};
 use smp_upload::{Mounted, UploadFault, sides_are_told_apart};
 
 /// What a mounted side does.
@@ -53,6 +54,42 @@ fn target_after(
     }
 }
 
+/// A request about the image that is held so: its side is mounted where it is not, and then asked.
+fn ask_held<F: Flash>(
+    held: Held,
+    image: u32,
+    target: u32,
+    flash: &mut F,
+    request: &SideRequest<'_>,
+) -> Asked
+    requires layout { geometry_of (held_layout held) ≡ (F.state flash.old).geometry }
+    requires says { IfSome (F.state flash.old).bytes (HeldSays held) }
+    requires start { IsStart (F.state flash.old).geometry request.now }
+    ensures { AskedAt (held_layout held) image target request.now result (F.state flash.old) (F.state flash.new) }
+{
+    side_laws();
+    sides_are_told_apart();
+    match mounted(held, flash) {
+        Err(fault) => {
+            let handed = lost(fault);
+            Asked {
+                held: handed.held,
+                target,
+                result: handed.result,
+            }
+        }
+        Ok(side) => {
+            let handed = ask_side(side, flash, request);
+            let target = target_after(target, image, request, &handed.result);
+            Asked {
+                held: handed.held,
+                target,
+                result: handed.result,
+            }
+        }
+    }
+}
+
 /// A request about image 0.
 fn ask_zero<F: Flash>(images: Images, flash: &mut F, request: &SideRequest<'_>) -> Replied
     requires places { ArePlaces (F.state flash.old).geometry (places_of images) }
@@ -64,32 +101,15 @@ fn ask_zero<F: Flash>(images: Images, flash: &mut F, request: &SideRequest<'_>) 
     ensures erased { ErasesAt (places_of images) 0 request.now result.result (F.state flash.new).bytes }
 {
     side_laws();
-    sides_are_told_apart();
     let Images { zero, one, target } = images;
-    match mounted(zero, flash) {
-        Err(fault) => {
-            let handed = lost(fault);
-            Replied {
-                images: Images {
-                    zero: handed.held,
-                    one,
-                    target,
-                },
-                result: handed.result,
-            }
-        }
-        Ok(side) => {
-            let handed = ask_side(side, flash, request);
-            let target = target_after(target, 0, request, &handed.result);
-            Replied {
-                images: Images {
-                    zero: handed.held,
-                    one,
-                    target,
-                },
-                result: handed.result,
-            }
-        }
+    let asked = ask_held(zero, 0, target, flash, request);
+    Replied {
+        images: Images {
+            zero: asked.held,
+            one,
+            target: asked.target,
+        },
+        result: asked.result,
     }
 }
 
@@ -105,7 +125,6 @@ fn ask_one<F: Flash>(images: Images, flash: &mut F, request: &SideRequest<'_>) -
     ensures absent { place_at 1 (places_of images) ≡ None → Untouched images result (F.state flash.old) (F.state flash.new) }
 {
     side_laws();
-    sides_are_told_apart();
     let Images { zero, one, target } = images;
     match one {
         None => no_image(Images {
@@ -113,31 +132,17 @@ fn ask_one<F: Flash>(images: Images, flash: &mut F, request: &SideRequest<'_>) -
             one: None,
             target,
         }),
-        Some(held) => match mounted(held, flash) {
-            Err(fault) => {
-                let handed = lost(fault);
-                Replied {
-                    images: Images {
-                        zero,
-                        one: Some(handed.held),
-                        target,
-                    },
-                    result: handed.result,
-                }
+        Some(held) => {
+            let asked = ask_held(held, 1, target, flash, request);
+            Replied {
+                images: Images {
+                    zero,
+                    one: Some(asked.held),
+                    target: asked.target,
+                },
+                result: asked.result,
             }
-            Ok(side) => {
-                let handed = ask_side(side, flash, request);
-                let target = target_after(target, 1, request, &handed.result);
-                Replied {
-                    images: Images {
-                        zero,
-                        one: Some(handed.held),
-                        target,
-                    },
-                    result: handed.result,
-                }
-            }
-        },
+        }
     }
 }
 

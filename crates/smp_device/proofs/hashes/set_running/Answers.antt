@@ -19,8 +19,8 @@ returns-then-not-confirm-clause-answers g c =
 
 pub returns-in-Ok-clause-answers : goal.returns-in-Ok-clause-answers
 returns-in-Ok-clause-answers g c =
-    images_as (places_of c.args.images) 5 c.args.images.target (λ d. settling d (acts_on (acts.Confirm true) 0)) (λ d. sets_no_hash d c.args.confirm) c.confirm_settled.result.images c.confirm_settled.result.result (g.F.Flash.state c.args.flash.now) (g.F.Flash.state c.confirm_settled.new.flash) (running_confirmed (places_of c.args.images) c.args.images.target c.args.confirm c.if-not-confirm.false)
-    (settled_then c.side_laws.ensures (places_of c.args.images) (settled_places c.in-Ok.settled) c.args.images.target c.in-Ok.settled.target 0 (acts_on (acts.Confirm true) 0) c.confirm_settled.result (g.F.Flash.state c.args.flash.now) (g.F.Flash.state c.settle_all.new.flash) (g.F.Flash.state c.confirm_settled.new.flash) (omega arith) c.in-Ok.ensures.places c.in-Ok.ensures.target c.in-Ok.ensures.settles c.confirm_settled.ensures.answers)
+    images_as (places_of c.args.images) 5 c.args.images.target (λ d. settling d (acts_on (acts.Confirm true) 0)) (λ d. sets_no_hash d c.args.confirm) c.act_first.result.images c.act_first.result.result (g.F.Flash.state c.args.flash.now) (g.F.Flash.state c.act_first.new.flash) (running_confirmed (places_of c.args.images) c.args.images.target c.args.confirm c.if-not-confirm.false)
+    (settled_then c.side_laws.ensures (places_of c.args.images) (settled_places c.in-Ok.settled) c.args.images.target c.in-Ok.settled.target 0 (acts_on (acts.Confirm true) 0) c.act_first.result (g.F.Flash.state c.args.flash.now) (g.F.Flash.state c.settle_all.new.flash) (g.F.Flash.state c.act_first.new.flash) (omega arith) c.in-Ok.ensures.places c.in-Ok.ensures.target c.in-Ok.ensures.settles c.act_first.ensures.answers)
 
 pub returns-in-Err-clause-answers : goal.returns-in-Err-clause-answers
 returns-in-Err-clause-answers g c =
@@ -37,8 +37,8 @@ returns-in-Ok-clause-untouched g c = λ refused. clash _ c.args.confirm refused 
 
 pub returns-in-Ok-clause-mounts : goal.returns-in-Ok-clause-mounts
 returns-in-Ok-clause-mounts g c = λ taken.
-    mounts_answer c.args.images.target (λ d. settling d (acts_on (acts.Confirm true) 0)) c.args.images c.confirm_settled.result (g.F.Flash.state c.args.flash.now) (g.F.Flash.state c.confirm_settled.new.flash) c.confirm_settled.ensures.mounts
-    (settled_then c.side_laws.ensures (places_of c.args.images) (settled_places c.in-Ok.settled) c.args.images.target c.in-Ok.settled.target 0 (acts_on (acts.Confirm true) 0) c.confirm_settled.result (g.F.Flash.state c.args.flash.now) (g.F.Flash.state c.settle_all.new.flash) (g.F.Flash.state c.confirm_settled.new.flash) (omega arith) c.in-Ok.ensures.places c.in-Ok.ensures.target c.in-Ok.ensures.settles c.confirm_settled.ensures.answers)
+    mounts_answer c.args.images.target (λ d. settling d (acts_on (acts.Confirm true) 0)) c.args.images c.act_first.result (g.F.Flash.state c.args.flash.now) (g.F.Flash.state c.act_first.new.flash) c.act_first.ensures.mounts
+    (settled_then c.side_laws.ensures (places_of c.args.images) (settled_places c.in-Ok.settled) c.args.images.target c.in-Ok.settled.target 0 (acts_on (acts.Confirm true) 0) c.act_first.result (g.F.Flash.state c.args.flash.now) (g.F.Flash.state c.settle_all.new.flash) (g.F.Flash.state c.act_first.new.flash) (omega arith) c.in-Ok.ensures.places c.in-Ok.ensures.target c.in-Ok.ensures.settles c.act_first.ensures.answers)
 
 pub returns-in-Err-clause-untouched : goal.returns-in-Err-clause-untouched
 returns-in-Err-clause-untouched g c = λ refused. clash _ c.args.confirm refused c.if-not-confirm.false
