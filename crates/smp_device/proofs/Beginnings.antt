@@ -1,18 +1,18 @@
 -- The whole of a start: the settings, the images, and which of them are confirmed.
-use Rattle.std.proofs.Common.{◌≡◌, ◌⊎◌, inl, inr, ℕ, zero, suc, ◌+◌, ◌≤◌, ◌++◌, true, false, Bool, Option, Some, None, List, [], ◌∷◌, Result, Ok, Err, refl, sym, ◌∙◌, ap, subst, arith}
-use Rattle.std.specs.Prelude.{IfSome, IfErr, OnOk, IfOk, IsErrOf, IsSome, length, option_map}
+use Rattle.std.proofs.Common.{◌≡◌, ◌⊎◌, ℕ, zero, suc, ◌++◌, true, Bool, Option, Some, None, List, [], ◌∷◌, Ok, Err, refl, sym, ◌∙◌, ap, subst, arith}
+use Rattle.std.specs.Prelude.{IfSome, IsErrOf, length, option_map}
 use Rattle.smp_flash.specs.Area.{Told, Keeps, Clear}
 use Rattle.smp_flash.specs.Calls.{Calls}
-use Rattle.smp_flash.specs.Layout.{geometry_of, image_of, progress_of, settings_of, slot_of, area_spot, bank_spots}
-use Rattle.smp_flash.specs.State.{FlashState, End, fault_end, ended}
+use Rattle.smp_flash.specs.Layout.{geometry_of, image_of, progress_of, settings_of, bank_spots}
+use Rattle.smp_flash.specs.State.{FlashState, End, fault_end}
 use Rattle.smp_flash.specs.State.End.{Went}
 use Rattle.smp_flash.specs.declared.flash.CallFault.{CallFault}
 use Rattle.smp_flash.specs.declared.flash.CallFault.TheVariants as called
 use Rattle.smp_flash.specs.declared.geometry.Geometry.{Geometry}
 use Rattle.smp_flash.specs.declared.layout.Layout.{Layout}
-use Rattle.smp_flash.proofs.Passing.{Calls-after, Calls-wider, Covers, Covers-trans}
+use Rattle.smp_flash.proofs.Passing.{Calls-after, Calls-wider, Covers}
 use Rattle.smp_flash.proofs.Telling.{Told-map, Told-same, Told-from, Told-after, IfSome-same}
-use Rattle.smp_gate.specs.Fault.{bank_end, bank_fault_end}
+use Rattle.smp_gate.specs.Fault.{bank_fault_end}
 use Rattle.smp_gate.specs.Newest.{AgesAtMost}
 use Rattle.smp_gate.specs.declared.fault.BankFault.{BankFault}
 use Rattle.smp_gate.specs.declared.fault.BankFault.TheVariants as banks
@@ -27,31 +27,28 @@ use Rattle.smp_model.specs.declared.setting.Setting.{Setting}
 use Rattle.smp_model.specs.Meant as meant
 use Rattle.smp_model.specs.Settings.{stored_form}
 use Rattle.smp_model.specs.Steps.{Step, applied, settle, settle_steps, side_at, start}
-use Rattle.smp_settings.specs.Saved.{SavedStand, SavedReadable, SettingsSay, SettingsState, saved_in}
+use Rattle.smp_settings.specs.Saved.{SavedStand, SavedReadable, SettingsSay, SettingsState}
 use Rattle.smp_upload.specs.Bytes.{SideStands, SideShows, SideReadable, confirmed_in}
 use Rattle.smp_upload.specs.Faults.{of_call, upload_fault_end}
-use Rattle.smp_upload.specs.Moves.{KeepsPending, mount_spots}
-use Rattle.smp_upload.specs.States.{Known, Says, Knows, announced, known_mounted}
-use Rattle.smp_upload.specs.declared.states.Mounted.{Mounted}
+use Rattle.smp_upload.specs.Moves.{KeepsPending}
+use Rattle.smp_upload.specs.States.{Known, Knows, announced, known_mounted}
 use Rattle.smp_upload.specs.declared.states.UploadFault.{UploadFault}
 use Rattle.smp_upload.specs.declared.states.UploadFault.TheVariants as faults
 use Rattle.smp_upload.proofs.Composing.{shows_stands}
-use Rattle.smp_side.specs.Held.{HeldSays, held_layout, result_end}
+use Rattle.smp_side.specs.Held.{HeldSays, held_layout}
 use Rattle.smp_side.specs.declared.held.Held.{Held}
 use Rattle.smp_side.specs.declared.held.Held.TheVariants as helds
-use Rattle.smp_device.specs.Answers.{ImagesReached}
 use Rattle.smp_device.specs.DeviceLaws.{DeviceLaws}
-use Rattle.smp_device.specs.Places.{Places, ArePlaces, AtEach, ImagesSay, ImagesStand, StandsAt, place_at, places_of, second_spots, spots_of}
+use Rattle.smp_device.specs.Places.{Places, ArePlaces, AtEach, ImagesSay, ImagesStand, StandsAt, place_at, places_of, spots_of}
 use Rattle.smp_device.specs.Serving.{of_bank}
-use Rattle.smp_device.specs.Settling.{Settle, Settles}
+use Rattle.smp_device.specs.Settling.{Settle}
 use Rattle.smp_device.specs.Showing.{shown_at, shown_held, shown_if, shown_known, shown_side, shown_upload}
-use Rattle.smp_device.specs.Starting.{AreConfirmed, AreMounted, IsMounted, OpenFails, SettleTo, StartCaused, Started, Starts, StartsImages, StartsOn, Unstarted, WornAt, start_spots}
-use Rattle.smp_device.specs.Up.{AllPlaces, Readable, Shows, ShowsAt, Stands, UpSays}
+use Rattle.smp_device.specs.Starting.{AreConfirmed, AreMounted, IsMounted, OpenFails, SettleTo, StartCaused, Starts, StartsImages, StartsOn, Unstarted, WornAt, start_spots}
+use Rattle.smp_device.specs.Up.{AllPlaces, Readable, ShowsAt, Stands, UpSays}
 use Rattle.smp_device.specs.declared.images.Images.{Images}
 use Rattle.smp_device.specs.declared.showing.Confirmed.{Confirmed}
 use Rattle.smp_device.specs.declared.showing.Shown.{Shown}
-use Rattle.smp_device.specs.declared.starting.Begun.{Begun}
-use Rattle.smp_device.proofs.Frames.{settings_clear, settings_age, progress_age, pending_kept}
+use Rattle.smp_device.proofs.Frames.{settings_clear, settings_age}
 use Rattle.smp_device.proofs.Parting.{Covers-left, Covers-right}
 use Rattle.smp_device.proofs.ServingImages.{both_say}
 
@@ -170,6 +167,7 @@ start_unconfirmed laws law g p are images fault passed a b c d e calls kept m re
     end_as : (fault : CallFault) → Calls (spots_of p) (fault_end fault) c d → Calls (spots_of p) (upload_fault_end (of_call fault)) c d
     end_as (called.Fault operation) r = r
     end_as called.Off r = r
+
     no_cause : (fault : CallFault) → StartCaused p (Err (of_call fault)) a.bytes
     no_cause (called.Fault operation) = tt
     no_cause called.Off = tt

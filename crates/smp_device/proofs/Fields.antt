@@ -19,6 +19,7 @@ use Rattle.smp_model.specs.declared.reply.Reply.TheVariants as replied
 use Rattle.smp_model.specs.declared.upload.Announcement.{Announcement}
 use Rattle.smp_model.specs.declared.upload.Mark.{Mark}
 use Rattle.smp_model.specs.Does.{does}
+use Rattle.smp_model.specs.Errors.{IsGroupError}
 use Rattle.smp_model.specs.ImageGroup.{begins_on, begins_with_magic, erase_of, erases, erases_on, has_wrong_size, part_at, part_of, refuses_image, side_of, start_at, start_of, uploads_to}
 use Rattle.smp_model.specs.Meant as meant
 use Rattle.smp_model.specs.Response.{Response, reply_alone, settling_side}
@@ -28,7 +29,7 @@ use Rattle.smp_model.specs.Steps.{applied, side_at, Part}
 use Rattle.smp_model.specs.Uploads.{is_spoiled}
 use Rattle.smp_upload.specs.Moves.{KeepsPending}
 use Rattle.smp_upload.specs.declared.states.UploadFault.{UploadFault}
-use Rattle.smp_device.specs.Answers.{ImagesAnswer, ImagesMove, ImagesDo, ImagesPay, ImagesTell}
+use Rattle.smp_device.specs.Answers.{ImagesAnswer, IsImageReply, ImagesMove, ImagesDo, ImagesPay, ImagesTell}
 use Rattle.smp_device.specs.Places.{Places, place_at, spots_of, ImagesStand, places_of, ImagesSay}
 use Rattle.smp_device.specs.Requests.{responds_of, responds_on}
 use Rattle.smp_device.specs.Uploads.{sizes_of, start_fault, Announces}
@@ -269,3 +270,7 @@ room_is g geometry size len sha part r e f announces =
 
 pub as_number : (images : Images) (r : Replied) (m n : ℕ) → m ≡ n → r ≡ record { images = images; result = Ok (replied.GroupError 1 m) } → r ≡ record { images = images; result = Ok (replied.GroupError 1 n) }
 as_number images r m n e f = f ∙ ap (λ (k : ℕ). record { images = images; result = Ok (replied.GroupError 1 k) }) e
+
+-- an error of the table may be answered
+pub refused_answer : (images : Images) (number : ℕ) (r : Replied) → r ≡ record { images = images; result = Ok (replied.GroupError 1 number) } → IsGroupError 1 number → IfOk r.result (λ reply. IsImageReply (said_of reply))
+refused_answer images number r e known = subst (λ (x : Replied). IfOk x.result (λ reply. IsImageReply (said_of reply))) (sym e) known

@@ -1,10 +1,9 @@
 -- What the calls about images and those about settings leave of each other's regions.
-use Rattle.std.proofs.Common.{◌≡◌, ◌⊎◌, inl, inr, ℕ, zero, suc, ◌+◌, ◌*◌, ◌≤◌, Option, Some, None, List, [], ◌∷◌, ◌++◌, refl, sym, ◌∙◌, ap, subst, arith}
+use Rattle.std.proofs.Common.{◌≡◌, inl, inr, ℕ, zero, suc, Option, Some, None, List, [], ◌∷◌, ◌++◌, sym, ◌∙◌, ap, subst, arith}
 use Rattle.std.specs.Prelude.{IfSome}
 use Rattle.smp_flash.specs.Area.{Told, Keeps, Clear}
 use Rattle.smp_flash.specs.Geometry.{first_size}
-use Rattle.smp_flash.specs.Layout.{geometry_of, image_of, slot_of, progress_of, settings_of, scratch_of, bank_spots}
-use Rattle.smp_flash.specs.Region.{start_of}
+use Rattle.smp_flash.specs.Layout.{geometry_of, image_of, slot_of, progress_of, settings_of, bank_spots}
 use Rattle.smp_flash.specs.declared.geometry.Geometry.{Geometry}
 use Rattle.smp_flash.specs.declared.layout.Layout.{Layout}
 use Rattle.smp_flash.proofs.Telling.{Told-map}
@@ -46,9 +45,10 @@ of_first g first (Some l) e f = (f.0 ∙ sym e, f.1)
 pub settings_clear : (g : Geometry) (p : Places) → ArePlaces g p → Clear (spots_of p) (settings_of p.first).first.at 4096 × Clear (spots_of p) (settings_of p.first).second.at 4096
 settings_clear g p are =
     let a = clear_of_first p.first are.first.1 in
-    let b = clear_second p.first p.second (of_first g p.first p.second are.first.0 are.second) in
-    ( clear_both (mount_spots p.first) (second_spots p.second) (settings_of p.first).first.at 4096 a.0 b.0,
-      clear_both (mount_spots p.first) (second_spots p.second) (settings_of p.first).second.at 4096 a.1 b.1 )
+    let b = clear_second p.first p.second (of_first g p.first p.second are.first.0 are.second) in (
+      clear_both (mount_spots p.first) (second_spots p.second) (settings_of p.first).first.at 4096 a.0 b.0,
+      clear_both (mount_spots p.first) (second_spots p.second) (settings_of p.first).second.at 4096 a.1 b.1,
+    )
 
 -- And the regions of each image clear of the settings bank.
 

@@ -13,7 +13,6 @@ use Rattle.smp_model.specs.declared.reply.Reply.{Reply}
 use Rattle.smp_model.specs.declared.reply.Reply.TheVariants as replied
 use Rattle.smp_model.specs.declared.setting.Setting.{Setting}
 use Rattle.smp_model.specs.FileGroup.{writes_file}
-use Rattle.smp_model.specs.Handled.{response_to}
 use Rattle.smp_model.specs.Meant as meant
 use Rattle.smp_model.specs.Meant.{Meant}
 use Rattle.smp_model.specs.Response.{Response, responds}
@@ -22,14 +21,12 @@ use Rattle.smp_model.specs.Said.{Said, said_of}
 use Rattle.smp_model.specs.Named.{named}
 use Rattle.smp_model.specs.Settings.{is_setting_name, value_of, written_setting, deleted_setting}
 use Rattle.smp_model.specs.SettingsGroup.{writes_setting, deletes_setting}
-use Rattle.smp_model.specs.Steps.{Step, applied}
-use Rattle.smp_settings.specs.Saved.{SettingsSay, SettingsState, after_write, written_response, deleted_response}
+use Rattle.smp_model.specs.Steps.{applied}
+use Rattle.smp_settings.specs.Saved.{SettingsState, after_write, written_response, deleted_response}
 use Rattle.smp_settings.specs.declared.fault.SettingFault.{SettingFault}
 use Rattle.smp_settings.specs.declared.fault.SettingFault.TheVariants as writes
-use Rattle.smp_device.specs.Places.{ImagesSay}
 use Rattle.smp_device.specs.Serving.{Serves, setting_reply}
 use Rattle.smp_device.specs.Up.{Up, UpSays, Carries, up_of}
-use Rattle.smp_device.specs.Uploads.{sizes_of}
 use Rattle.smp_device.specs.declared.images.Images.{Images}
 use Rattle.smp_device.proofs.ServingQuietly.{Quietly, SameStanding, same_standing, quiet}
 
@@ -70,7 +67,7 @@ write_served g name val r up settings a says w e =
     subst (λ (s : SettingsState). Serves g (Ok (meant.setting_write name val)) up (up_of up.images s up.files up.counters) (Ok (setting_reply r)) a a) (sym e)
     (quiet g (Ok (meant.setting_write name val)) up (up_of up.images new up.files up.counters) (setting_reply r) a refl refl refl refl (running_say up.images up.settings (after_write r name val up.settings.running) a.bytes says)
     (λ d c. subst (λ (x : Response). Quietly x d (up_of up.images new up.files up.counters) (setting_reply r)) (sym (ap (λ (running : List Setting). writes_setting running name val) c.running ∙ w))
-      (record { reply = write_reply_is r name val; standing = write_standing r name val d; carries = write_carries r name val up d c })))
+    (record { reply = write_reply_is r name val; standing = write_standing r name val d; carries = write_carries r name val up d c })))
 
 -- A delete.
 
@@ -109,7 +106,7 @@ delete_served g name there up settings a says w e none =
     subst (λ (s : SettingsState). Serves g (Ok (meant.setting_delete name)) up (up_of up.images s up.files up.counters) (Ok (delete_reply there)) a a) (sym e)
     (quiet g (Ok (meant.setting_delete name)) up (up_of up.images new up.files up.counters) (delete_reply there) a refl refl refl refl (running_say up.images up.settings (deleted_setting name up.settings.running) a.bytes says)
     (λ d c. subst (λ (x : Response). Quietly x d (up_of up.images new up.files up.counters) (delete_reply there)) (sym (ap (λ (running : List Setting). deletes_setting running name) c.running ∙ w))
-      (record { reply = delete_reply_is there name; standing = delete_standing there name d; carries = delete_carries there name up d none c })))
+    (record { reply = delete_reply_is there name; standing = delete_standing there name d; carries = delete_carries there name up d none c })))
 
 -- a delete that found the name, or did not
 pub deleted_as : (g : Geometry) (name : List ℕ) (r there : Bool) (reply : Reply) (up : Up) (settings : SettingsState) (a : FlashState) → r ≡ there → reply ≡ delete_reply there → IfSome a.bytes (UpSays up.images up.settings)
@@ -154,18 +151,18 @@ pub file_served : (g : Geometry) (off : ℕ) (part : List ℕ) (len : Option ℕ
 file_served g off part len name r reply up files a says e w =
     quiet g (Ok (meant.file_write off part len name)) up (up_of up.images up.settings files up.counters) reply a refl refl refl refl says
     (λ d c. subst (λ (x : Response). Quietly x d (up_of up.images up.settings files up.counters) reply) (sym (ap (λ (fs : List StoredFile). writes_file fs off part len name) c.files))
-      (let after : applied (writes_file up.files off part len name).steps d ≡ record d { files = files } = w.steps d c.files in
-        record {
-          reply = e ∙ sym w.reply;
-          standing = record {
-            first = ap (λ (x : AbstractDevice). x.first) after;
-            second = ap (λ (x : AbstractDevice). x.second) after;
-            saved = ap (λ (x : AbstractDevice). x.saved) after;
-            target = ap (λ (x : AbstractDevice). x.target) after;
-          };
-          carries = record {
-            running = ap (λ (x : AbstractDevice). x.running) after ∙ c.running;
-            files = ap (λ (x : AbstractDevice). x.files) after;
-            counters = ap (λ (x : AbstractDevice). x.counters) after ∙ c.counters;
-          };
-        }))
+    (let after : applied (writes_file up.files off part len name).steps d ≡ record d { files = files } = w.steps d c.files in
+    record {
+      reply = e ∙ sym w.reply;
+      standing = record {
+        first = ap (λ (x : AbstractDevice). x.first) after;
+        second = ap (λ (x : AbstractDevice). x.second) after;
+        saved = ap (λ (x : AbstractDevice). x.saved) after;
+        target = ap (λ (x : AbstractDevice). x.target) after;
+      };
+      carries = record {
+        running = ap (λ (x : AbstractDevice). x.running) after ∙ c.running;
+        files = ap (λ (x : AbstractDevice). x.files) after;
+        counters = ap (λ (x : AbstractDevice). x.counters) after ∙ c.counters;
+      };
+    }))

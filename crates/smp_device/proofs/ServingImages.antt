@@ -1,6 +1,6 @@
 -- A request about images, served.
-use Rattle.std.proofs.Common.{◌≡◌, ℕ, ◌++◌, Option, Some, None, List, [], ◌∷◌, Result, Ok, Err, refl, sym, ◌∙◌, ap, subst}
-use Rattle.std.specs.Prelude.{IfSome, OnOk, IfOk}
+use Rattle.std.proofs.Common.{◌≡◌, ℕ, ◌+◌, ◌≤◌, arith, ◌++◌, Option, Some, None, List, [], ◌∷◌, Result, Ok, Err, refl, sym, ◌∙◌, ap, subst}
+use Rattle.std.specs.Prelude.{IfSome, OnOk, IfOk, length}
 use Rattle.smp_flash.specs.Area.{Told, Keeps, Clear}
 use Rattle.smp_flash.specs.Calls.{Calls}
 use Rattle.smp_flash.specs.Layout.{settings_of}
@@ -15,17 +15,20 @@ use Rattle.smp_model.specs.Does.{does}
 use Rattle.smp_model.specs.Laws.{IsAboutImages, SameBesideImages}
 use Rattle.smp_model.specs.Meant as meant
 use Rattle.smp_model.specs.Meant.{Meant}
-use Rattle.smp_model.specs.Response.{Response}
-use Rattle.smp_model.specs.Said.{said_of}
+use Rattle.smp_model.specs.declared.reply.SidePair.{SidePair}
+use Rattle.smp_model.specs.declared.reply.SlotEntry.{SlotEntry}
+use Rattle.smp_model.specs.Said as said
+use Rattle.smp_model.specs.Said.{Said, said_of, listed, slots_of, if_some}
 use Rattle.smp_model.specs.Steps.{Step, applied, Part}
 use Rattle.smp_settings.specs.Saved.{SettingsSay, SettingsState, saved_in}
 use Rattle.smp_upload.specs.declared.states.UploadFault.{UploadFault}
 use Rattle.smp_upload.specs.declared.states.UploadFault.TheVariants as faults
 use Rattle.smp_side.specs.Held.{result_end}
-use Rattle.smp_device.specs.Answers.{ImagesAnswer, ImagesMove, ImagesDo, ImagesTell, ImagesCaused, ResultCausedIn}
+use Rattle.smp_device.specs.Answers.{ImagesAnswer, IsImageReply, ImagesMove, ImagesDo, ImagesTell, ImagesCaused, ResultCausedIn}
 use Rattle.smp_device.specs.DeviceLaws.{DeviceLaws}
 use Rattle.smp_device.specs.Places.{Places, ArePlaces, ImagesSay, ImagesStand, places_of, spots_of}
-use Rattle.smp_device.specs.Serving.{Reached, ReachedFrom, CausedBy, ResultCausedBy, Serves, spots_by}
+use Rattle.smp_device.specs.Serving.{ReachedFrom, CausedBy, ResultCausedBy, Serves, spots_by}
+use Rattle.smp_device.specs.Telling.{Fitting}
 use Rattle.smp_device.specs.Up.{Up, Stands, UpSays, IsFor, Carries}
 use Rattle.smp_device.specs.Uploads.{sizes_of}
 use Rattle.smp_device.specs.declared.images.Images.{Images}
@@ -161,3 +164,36 @@ images_served laws g m is up images r a b for says f =
       settings_ages = Told-map (Keeps (spots_of p)) (AgesAtMost 1 (settings_of p.first)) a.bytes b.bytes (λ u v. settings_age laws g p for.places 1 u v) f.calls.keeps;
       pending = f.pending;
     }
+
+-- What is answered about images can be sent.
+
+slots_few : (image : Option ℕ) (pair : SidePair) → length (slots_of image pair) ≤ 2
+slots_few image pair = few pair.second
+  where
+    few : (o : Option SlotEntry) → length {A = Option ℕ × SlotEntry} ((image, pair.first) ∷ if_some o (λ e. (image, e) ∷ [])) ≤ 2
+    few None = omega arith
+    few (Some e) = omega arith
+
+length_append : {A : Type 0} (xs ys : List A) → length (xs ++ ys) ≡ length xs + length ys
+length_append [] ys = omega arith
+length_append (x ∷ xs) ys = let h = length_append xs ys in omega (arith, h)
+
+listed_few : (pair : SidePair) (other : Option SidePair) → length (listed pair other) ≤ 4
+listed_few pair None = let a = slots_few None pair in omega (arith, a)
+listed_few pair (Some other) =
+    let a = slots_few (Some 0) pair in
+    let b = slots_few (Some 1) other in
+    let c = length_append (slots_of (Some 0) pair) (slots_of (Some 1) other) in
+    omega (arith, a, b, c)
+
+image_fits : (s : Said) → IsImageReply s → Fitting s
+image_fits (said.images pair other) is = let few = listed_few pair other in record { room = omega (arith, few); sendable = tt }
+image_fits (said.smp_error number) is = record { room = omega arith; sendable = tt }
+image_fits (said.offset off matched) is = record { room = omega arith; sendable = tt }
+image_fits said.empty is = record { room = omega arith; sendable = tt }
+image_fits (said.group_error group number) is = record { room = omega arith; sendable = is }
+image_fits s is = absurd is
+
+pub images_fit : (r : Result Reply UploadFault) → IfOk r (λ reply. IsImageReply (said_of reply)) → IfOk r (λ reply. Fitting (said_of reply))
+images_fit (Ok reply) is = image_fits (said_of reply) is
+images_fit (Err fault) is = tt

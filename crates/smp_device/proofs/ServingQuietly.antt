@@ -1,33 +1,28 @@
 -- A request that makes no operation on the flash, served.
-use Rattle.std.proofs.Common.{◌≡◌, ◌⊎◌, inl, inr, ℕ, zero, suc, Bool, true, false, not, Option, Some, None, List, [], ◌∷◌, ◌++◌, Result, Ok, Err, refl, sym, ◌∙◌, ap, subst, arith, if◌then◌else◌}
-use Rattle.std.specs.Prelude.{IfSome, codes}
-use Rattle.std.specs.Str.{bytes_eq}
+use Rattle.std.proofs.Common.{◌≡◌, ℕ, zero, suc, Option, Some, None, List, [], Result, Ok, refl, sym, ◌∙◌, ap, subst, arith}
+use Rattle.std.specs.Prelude.{IfSome}
 use Rattle.smp_flash.specs.Area.{Told}
-use Rattle.smp_flash.specs.Calls.{Calls}
 use Rattle.smp_flash.specs.Layout.{progress_of, settings_of}
 use Rattle.smp_flash.specs.State.{FlashState}
-use Rattle.smp_flash.specs.State.End.{Went}
 use Rattle.smp_flash.specs.declared.geometry.Geometry.{Geometry}
 use Rattle.smp_flash.specs.declared.layout.Layout.{Layout}
 use Rattle.smp_flash.proofs.Passing.{Calls-refl}
 use Rattle.smp_flash.proofs.Telling.{Told-same}
 use Rattle.smp_gate.specs.Newest.{AgesAtMost}
 use Rattle.smp_model.specs.declared.device.AbstractDevice.{AbstractDevice}
-use Rattle.smp_model.specs.declared.device.Counters.{Counters}
 use Rattle.smp_model.specs.declared.device.Side.{Side}
-use Rattle.smp_model.specs.declared.device.StoredFile.{StoredFile}
 use Rattle.smp_model.specs.declared.reply.Reply.{Reply}
 use Rattle.smp_model.specs.declared.setting.Setting.{Setting}
 use Rattle.smp_model.specs.Handled.{response_to}
 use Rattle.smp_model.specs.Meant.{Meant}
 use Rattle.smp_model.specs.Response.{Response}
-use Rattle.smp_model.specs.Said.{Said, said_of}
-use Rattle.smp_model.specs.Steps.{Step, applied, side_at}
+use Rattle.smp_model.specs.Said.{said_of}
+use Rattle.smp_model.specs.Steps.{applied, side_at}
 use Rattle.smp_settings.specs.Saved.{SavedStand}
 use Rattle.smp_upload.specs.Moves.{KeepsPending}
 use Rattle.smp_upload.specs.declared.states.UploadFault.{UploadFault}
-use Rattle.smp_device.specs.Places.{Places, StandsAt, ImagesStand, places_of, place_at}
-use Rattle.smp_device.specs.Serving.{Reached, ReachedFrom, Serves, spots_for}
+use Rattle.smp_device.specs.Places.{Places, StandsAt, places_of, place_at}
+use Rattle.smp_device.specs.Serving.{ReachedFrom, Serves, spots_for}
 use Rattle.smp_device.specs.Up.{Up, Stands, UpSays, Carries}
 use Rattle.smp_device.specs.Uploads.{sizes_of}
 use Rattle.smp_device.specs.declared.images.Images.{Images}

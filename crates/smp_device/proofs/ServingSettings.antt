@@ -1,5 +1,5 @@
 -- Requests about the saved settings, served.
-use Rattle.std.proofs.Common.{◌≡◌, ◌⊎◌, inl, inr, ℕ, zero, suc, ◌-◌, ◌^◌, ◌++◌, Bool, true, false, Option, Some, None, List, [], ◌∷◌, Result, Ok, Err, refl, sym, ◌∙◌, ap, subst, arith}
+use Rattle.std.proofs.Common.{◌≡◌, inl, inr, ℕ, zero, suc, ◌-◌, ◌^◌, true, Option, Some, None, List, [], ◌∷◌, Result, Ok, Err, refl, sym, ◌∙◌, ap, subst, arith}
 use Rattle.std.specs.Prelude.{IfSome, OnOk, OnErr, IsErrOf, option_map}
 use Rattle.smp_flash.specs.Area.{Told, Keeps}
 use Rattle.smp_flash.specs.Calls.{Calls}
@@ -20,18 +20,17 @@ use Rattle.smp_model.specs.declared.setting.Setting.{Setting}
 use Rattle.smp_model.specs.Handled.{response_to}
 use Rattle.smp_model.specs.Meant as meant
 use Rattle.smp_model.specs.Meant.{Meant}
-use Rattle.smp_model.specs.Steps.{Step, Save, Run, load_settings, applied, side_at}
+use Rattle.smp_model.specs.Steps.{Save, Run, load_settings, applied, side_at}
 use Rattle.smp_settings.specs.Saved.{SavedStand, SavedOrThis, SettingsSay, SettingsState, IsWorn, saved_in}
 use Rattle.smp_upload.specs.Bytes.{Apart}
 use Rattle.smp_upload.specs.States.{known_mounted}
 use Rattle.smp_upload.specs.declared.states.UploadFault.{UploadFault}
-use Rattle.smp_upload.specs.declared.states.UploadFault.TheVariants as faults
 use Rattle.smp_side.specs.Held.{HeldSays, held_layout, result_end}
 use Rattle.smp_side.specs.declared.held.Held.{Held}
 use Rattle.smp_side.specs.declared.held.Held.TheVariants as helds
 use Rattle.smp_device.specs.DeviceLaws.{DeviceLaws}
 use Rattle.smp_device.specs.Places.{Places, ArePlaces, ImagesSay, ImagesStand, StandsAt, place_at, places_of}
-use Rattle.smp_device.specs.Serving.{Reached, ReachedFrom, ResultCausedBy, Serves, spots_for, bank_reply, of_bank}
+use Rattle.smp_device.specs.Serving.{ReachedFrom, ResultCausedBy, Serves, spots_for, bank_reply, of_bank}
 use Rattle.smp_device.specs.Up.{Up, Stands, UpSays, IsFor, Carries}
 use Rattle.smp_device.specs.Uploads.{sizes_of}
 use Rattle.smp_device.specs.declared.images.Images.{Images}
@@ -266,17 +265,17 @@ save_err laws g up settings fault (Some u) (Some v) are k run either = λ d stan
     let p = places_of up.images in
     elim either [
       | inl same ↦ record {
-          taken = [];
-          went = (Save ∷ [], refl);
-          stands = kept_stands laws g p are up.images.target d u v k same stands;
-          carries = carries_none up settings d run carries;
-        }
+        taken = [];
+        went = (Save ∷ [], refl);
+        stands = kept_stands laws g p are up.images.target d u v k same stands;
+        carries = carries_none up settings d run carries;
+      }
       | inr this ↦ record {
-          taken = Save ∷ [];
-          went = ([], refl);
-          stands = saved_stands laws g p are up.images.target d up.settings.running u v k carries.running this stands;
-          carries = carries_save up settings d run carries;
-        }
+        taken = Save ∷ [];
+        went = ([], refl);
+        stands = saved_stands laws g p are up.images.target d up.settings.running u v k carries.running this stands;
+        carries = carries_save up settings d run carries;
+      }
     ]
 
 save_reached : DeviceLaws → (g : Geometry) (up : Up) (settings : SettingsState) (r : Result (Unit {0}) BankFault) (x y : Option (List ℕ)) → ArePlaces g (places_of up.images) → Told (Keeps (bank_spots (settings_of (places_of up.images).first))) x y

@@ -1,37 +1,27 @@
 -- A start: the settings are read, and then each image is mounted.
-use Rattle.std.proofs.Common.{◌≡◌, ◌⊎◌, inl, inr, ℕ, zero, suc, ◌+◌, ◌≤◌, ◌++◌, true, Option, Some, None, List, [], ◌∷◌, Result, Ok, Err, refl, sym, ◌∙◌, ap, subst, arith}
-use Rattle.std.specs.Prelude.{IfSome, OnOk, IfOk, IfErr, IsErrOf, length, option_map}
-use Rattle.smp_flash.specs.Area.{Told, Keeps, Clear}
-use Rattle.smp_flash.specs.Calls.{Calls}
-use Rattle.smp_flash.specs.Layout.{geometry_of, image_of, progress_of, settings_of, slot_of, area_spot, bank_spots}
-use Rattle.smp_flash.specs.State.{FlashState, End}
+use Rattle.std.proofs.Common.{◌≡◌, ◌⊎◌, inl, inr, ℕ, zero, suc, ◌++◌, Option, Some, None, List, [], ◌∷◌, Result, Ok, Err, refl, sym, ◌∙◌, ap, subst}
+use Rattle.std.specs.Prelude.{IfSome, IfOk}
+use Rattle.smp_flash.specs.Area.{Told, Keeps}
+use Rattle.smp_flash.specs.State.{FlashState}
 use Rattle.smp_flash.specs.State.End.{Went}
-use Rattle.smp_flash.specs.declared.flash.CallFault.{CallFault}
 use Rattle.smp_flash.specs.declared.geometry.Geometry.{Geometry}
 use Rattle.smp_flash.specs.declared.layout.Layout.{Layout}
-use Rattle.smp_flash.proofs.Passing.{Calls-after, Calls-wider, Covers}
-use Rattle.smp_flash.proofs.Telling.{Told-map, Told-same, Told-from, Told-trans, IfSome-same}
-use Rattle.smp_gate.specs.Newest.{AgesAtMost}
+use Rattle.smp_flash.proofs.Passing.{Calls-after, Calls-wider}
+use Rattle.smp_flash.proofs.Telling.{Told-trans}
 use Rattle.smp_model.specs.declared.device.AbstractDevice.{AbstractDevice}
-use Rattle.smp_model.specs.declared.device.Side.{Side}
 use Rattle.smp_model.specs.Sides.{side_settle_steps}
-use Rattle.smp_model.specs.Steps.{Step, applied, settle, settle_steps, settle_steps_of, side_at, start}
-use Rattle.smp_upload.specs.Bytes.{SideStands, SideShows, SideReadable, Apart}
-use Rattle.smp_upload.specs.Faults.{upload_end, upload_fault_end}
+use Rattle.smp_model.specs.Steps.{Step, applied, settle, settle_steps, settle_steps_of}
+use Rattle.smp_upload.specs.Bytes.{SideReadable, Apart}
+use Rattle.smp_upload.specs.Faults.{upload_fault_end}
 use Rattle.smp_upload.specs.Mounting.{IsWorn, Mounts}
-use Rattle.smp_upload.specs.Moves.{Moves, Does, Moved, Done, KeepsPending, mount_spots}
+use Rattle.smp_upload.specs.Moves.{Moves, Does, mount_spots}
 use Rattle.smp_upload.specs.States.{Says, known_mounted}
 use Rattle.smp_upload.specs.declared.states.Lost.{Lost}
 use Rattle.smp_upload.specs.declared.states.Mounted.{Mounted}
 use Rattle.smp_upload.specs.declared.states.UploadFault.{UploadFault}
-use Rattle.smp_upload.specs.declared.states.UploadFault.TheVariants as faults
-use Rattle.smp_side.specs.Held.{HeldSays, held_layout, result_end}
-use Rattle.smp_side.specs.declared.held.Held.{Held}
-use Rattle.smp_side.specs.declared.held.Held.TheVariants as helds
 use Rattle.smp_device.specs.Answers.{ImagesReached}
-use Rattle.smp_device.specs.DeviceLaws.{DeviceLaws}
 use Rattle.smp_device.specs.Laws.{Laws}
-use Rattle.smp_device.specs.Places.{Places, ArePlaces, AtEach, ImagesSay, ImagesStand, place_at, places_of, second_spots, spots_of}
+use Rattle.smp_device.specs.Places.{Places, ArePlaces, AtEach, ImagesSay, ImagesStand, place_at, places_of, spots_of}
 use Rattle.smp_device.specs.Settling.{Settle, Settles}
 use Rattle.smp_device.specs.Starting.{StartsImages, MountsBehind, SettleTo, WornAt, alone_images, both_images}
 use Rattle.smp_device.specs.declared.images.Images.{Images}
@@ -66,6 +56,7 @@ first_lost laws g p are lost a b m =
     first_unreadable : (p : Places) (x : Option (List ℕ)) → IfSome x (λ held. SideReadable p.first held → ⊥) → IfSome x (λ held. AtEach (λ l. SideReadable l held) p → ⊥)
     first_unreadable p None f = tt
     first_unreadable p (Some u) f = λ each. f (each 0 p.first refl)
+
     first_worn : (p : Places) (x : Option (List ℕ)) → IfSome x (IsWorn p.first) → IfSome x (λ held. WornAt p 0 held ⊎ WornAt p 1 held)
     first_worn p None w = tt
     first_worn p (Some u) w = inl w
@@ -235,7 +226,6 @@ places_behind first None it (Ok images) b c e f =
 places_behind first None it (Err fault) b c e f = tt
 places_behind first (Some l) it (Ok images) b c e f = ap places_of f.1.0 ∙ (λ i. record { first = e i; second = Some (f.1.1.layout_is i) })
 places_behind first (Some l) it (Err fault) b c e f = tt
-
 
 pub target_behind : (o : Option Layout) (it : Mounted) (r : Result Images UploadFault) (b c : FlashState) → MountsBehind o it r b c → IfOk r (λ images. images.target ≡ 0)
 target_behind None it (Ok images) b c f = let same : images ≡ alone_images it = cc f.0 in ap (λ (x : Images). x.target) same

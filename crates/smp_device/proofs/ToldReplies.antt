@@ -1,5 +1,5 @@
 -- What is answered from memory is the device's reply, and it has no steps.
-use Rattle.std.proofs.Common.{◌≡◌, ℕ, ◌+◌, ◌≤◌, ◌==◌, arith, Bool, true, false, not, Option, Some, None, List, [], ◌∷◌, Result, Ok, Err, refl, sym, ◌∙◌, ap, subst, if◌then◌else◌, nat_lt}
+use Rattle.std.proofs.Common.{◌≡◌, ℕ, ◌≤◌, ◌==◌, arith, Bool, true, false, not, Option, Some, None, List, [], Result, Ok, Err, refl, sym, ◌∙◌, ap, subst, if◌then◌else◌, nat_lt}
 use Rattle.std.proofs.lemmas.Bool.Decides.{nat_tests}
 use Rattle.std.specs.Prelude.{IfSome, IsSome, ◌↔◌, length}
 use Rattle.smp_flash.specs.State.{FlashState}
@@ -12,7 +12,7 @@ use Rattle.smp_model.specs.declared.reply.Reply.TheVariants as replied
 use Rattle.smp_model.specs.declared.setting.Setting.{Setting}
 use Rattle.smp_model.specs.Counters.{os_reply}
 use Rattle.smp_model.specs.Does.{does}
-use Rattle.smp_model.specs.FileGroup.{about_file, if_file, is_sha256, reads_held, hashes_held, reads_file, tells_length, hashes_file, refuses_file, bytes_from, length_at}
+use Rattle.smp_model.specs.FileGroup.{about_file, if_file, is_sha256, reads_held, hashes_held, reads_file, tells_length, hashes_file, refuses_file, length_at}
 use Rattle.smp_model.specs.Files.{file_of, is_file_name}
 use Rattle.smp_model.specs.Handled.{response_to}
 use Rattle.smp_model.specs.Meant as meant

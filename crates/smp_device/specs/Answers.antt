@@ -10,13 +10,14 @@ use Rattle.smp_gate.specs.Newest.{AgesAtMost, newest_generation}
 use Rattle.smp_model.specs.declared.device.AbstractDevice.{AbstractDevice}
 use Rattle.smp_model.specs.declared.reply.Reply.{Reply}
 use Rattle.smp_model.specs.Response.{Response}
-use Rattle.smp_model.specs.Said.{said_of}
+use Rattle.smp_model.specs.Said as said
+use Rattle.smp_model.specs.Said.{Said, said_of}
 use Rattle.smp_model.specs.Steps.{Step, applied, Part}
 use Rattle.smp_progress.specs.State.{CanTake}
 use Rattle.smp_upload.specs.Moves.{KeepsPending}
 use Rattle.smp_upload.specs.declared.states.UploadFault.{UploadFault}
 use Rattle.smp_upload.specs.declared.states.UploadFault.TheVariants as faults
-use Rattle.smp_side.specs.Held.{result_end}
+use Rattle.smp_side.specs.Held.{IsAnswer, result_end}
 use Rattle.smp_device.specs.Goings.{AreCounted}
 use Rattle.smp_device.specs.Mounts.{FellIn, IsUnmountedAt}
 use Rattle.smp_device.specs.Places.{Places, place_at, spots_of, ImagesStand, AtEach, places_of, ImagesSay}
@@ -86,3 +87,10 @@ pub record ImagesAnswer (p : Places) (n before : ℕ) (respond : AbstractDevice 
   pub caused : ResultCausedIn p n result a.bytes
   pub pays : OnOk result (ImagesPay p before respond a b)
   pub lost : IfErr result (λ fault. LostOne p n images fault a b)
+
+-- what may be answered about images: the list, an offset, nothing to say, an error of the protocol, or one that is in the table of
+-- group errors
+abbrev pub IsImageReply : Said → Type 0
+IsImageReply (said.images pair other) = Unit {0}
+IsImageReply (said.smp_error number) = Unit {0}
+IsImageReply s = IsAnswer s

@@ -1,5 +1,5 @@
 -- The laws of the crates below by which a call on some of the device's parts leaves the others.
-use Rattle.std.specs.Prelude.{◌≡◌, ℕ, List, true}
+use Rattle.std.specs.Prelude.{◌≡◌, ℕ, List}
 use Rattle.smp_flash.specs.Area.{Clear, Keeps}
 use Rattle.smp_flash.specs.Layout.{settings_of}
 use Rattle.smp_flash.specs.declared.layout.BankPlace.{BankPlace}

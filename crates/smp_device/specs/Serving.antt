@@ -1,12 +1,10 @@
 -- What serving a request does to the device that the flash's bytes and memory stand for.
-use Rattle.std.specs.Prelude.{◌≡◌, ◌-◌, ◌^◌, ◌++◌, ℕ, Bool, true, false, List, [], Option, Some, None, Result, Ok, Err, IfSome, IsSomeAnd, OnOk, if◌then◌else◌}
+use Rattle.std.specs.Prelude.{◌≡◌, ◌-◌, ◌^◌, ◌++◌, ℕ, Bool, true, false, List, [], Option, None, Result, Ok, Err, IfSome}
 use Rattle.smp_flash.specs.Area.{Told}
-use Rattle.smp_flash.specs.Calls.{Calls, Smaller}
+use Rattle.smp_flash.specs.Calls.{Calls}
 use Rattle.smp_flash.specs.Layout.{progress_of, settings_of, bank_spots}
 use Rattle.smp_flash.specs.State.{FlashState}
 use Rattle.smp_flash.specs.declared.geometry.Geometry.{Geometry}
-use Rattle.smp_flash.specs.declared.layout.Layout.{Layout}
-use Rattle.smp_flash.specs.declared.region.Region.{Region}
 use Rattle.smp_gate.specs.Newest.{AgesAtMost, newest_generation}
 use Rattle.smp_gate.specs.declared.fault.BankFault.{BankFault}
 use Rattle.smp_gate.specs.declared.fault.BankFault.TheVariants as banks
@@ -17,7 +15,7 @@ use Rattle.smp_model.specs.Handled.{response_to}
 use Rattle.smp_model.specs.Meant as meant
 use Rattle.smp_model.specs.Meant.{Meant}
 use Rattle.smp_model.specs.Response.{Response}
-use Rattle.smp_model.specs.Said.{Said, said_of}
+use Rattle.smp_model.specs.Said.{said_of}
 use Rattle.smp_model.specs.Steps.{Step, applied}
 use Rattle.smp_model.specs.declared.error.TheConstants.{SETTINGS_GROUP, SETTING_NAME_LENGTH, SETTING_VALUE_LENGTH, SETTINGS_FULL}
 use Rattle.smp_settings.specs.declared.fault.SettingFault.{SettingFault}

@@ -293,7 +293,9 @@ pub fn answer_packet<F: Flash>(
 {
     match request_of(packet) {
         Ok(request) => {
-            answer_request(images, settings, files, counts, flash, packet, &request, out)
+            answer_request(
+                images, settings, files, counts, flash, packet, &request, out,
+            )
         }
         Err(number) => {
             send(counts, out, packet, &Reply::SmpError(number));

@@ -10,7 +10,8 @@ ghost use Rattle.smp_model.specs.ImageGroup.{has_hash, mark_of, sets_hash, sets_
 ghost use Rattle.smp_model.specs.Meant as meant;
 ghost use Rattle.smp_upload.specs.Faults.{of_call};
 ghost use Rattle.smp_upload.specs.States.{Says, known_mounted};
-ghost use Rattle.smp_device.specs.Answers.{ImagesAnswer};
+ghost use Rattle.smp_model.specs.Said.{said_of};
+ghost use Rattle.smp_device.specs.Answers.{ImagesAnswer, IsImageReply};
 ghost use Rattle.smp_side.specs.Held.{is_ok};
 ghost use Rattle.smp_device.specs.Mounts.{MountsAll, MountsResult, MountsSettled, Untouched, Untouches};
 ghost use Rattle.smp_device.specs.Places.{ArePlaces, ImagesSay, places_of};
@@ -86,6 +87,7 @@ fn set_alone<F: Flash>(
     requires places { ArePlaces (F.state flash.old).geometry (alone_places zero) }
     requires says { IfSome (F.state flash.old).bytes (SettledSay (alone_settled zero target)) }
     ensures answers { ImagesAnswer (alone_places zero) 0 target (sets_hash hash.now confirm) result.images result.result (F.state flash.old) (F.state flash.new) }
+    ensures answer { IfOk result.result (λ reply. IsImageReply (said_of reply)) }
     ensures mounts { MountsSettled result.images.zero result.images.one (is_ok result.result) }
 {
     side_laws();
@@ -130,6 +132,7 @@ fn set_both<F: Flash>(
     requires places { ArePlaces (F.state flash.old).geometry (both_places settled.zero one) }
     requires says { IfSome (F.state flash.old).bytes (SettledSay (both_settled settled.zero one settled.target)) }
     ensures answers { ImagesAnswer (both_places settled.zero one) 0 settled.target (sets_hash hash.now confirm) result.images result.result (F.state flash.old) (F.state flash.new) }
+    ensures answer { IfOk result.result (λ reply. IsImageReply (said_of reply)) }
     ensures mounts { MountsSettled result.images.zero result.images.one (is_ok result.result) }
 {
     side_laws();
@@ -172,6 +175,7 @@ fn set_settled<F: Flash>(settled: Settled, flash: &mut F, hash: &[u8], confirm: 
     requires places { ArePlaces (F.state flash.old).geometry (settled_places settled) }
     requires says { IfSome (F.state flash.old).bytes (SettledSay settled) }
     ensures answers { ImagesAnswer (settled_places settled) 0 settled.target (sets_hash hash.now confirm) result.images result.result (F.state flash.old) (F.state flash.new) }
+    ensures answer { IfOk result.result (λ reply. IsImageReply (said_of reply)) }
     ensures mounts { MountsSettled result.images.zero result.images.one (is_ok result.result) }
 {
     let Settled { zero, one, target } = settled;
@@ -189,6 +193,7 @@ fn set_running<F: Flash>(images: Images, flash: &mut F, confirm: bool) -> Replie
     requires places { ArePlaces (F.state flash.old).geometry (places_of images) }
     requires says { IfSome (F.state flash.old).bytes (ImagesSay images) }
     ensures answers { ImagesAnswer (places_of images) 5 images.target (λ d. sets_no_hash d confirm) result.images result.result (F.state flash.old) (F.state flash.new) }
+    ensures answer { IfOk result.result (λ reply. IsImageReply (said_of reply)) }
     ensures untouched { confirm ≡ false → Untouched images result (F.state flash.old) (F.state flash.new) }
     ensures mounts { confirm ≡ true → MountsResult (places_of images) images result.images result.result (F.state flash.old) (F.state flash.new) }
 {
@@ -210,6 +215,7 @@ fn set_hash<F: Flash>(images: Images, flash: &mut F, hash: &[u8], confirm: bool)
     requires places { ArePlaces (F.state flash.old).geometry (places_of images) }
     requires says { IfSome (F.state flash.old).bytes (ImagesSay images) }
     ensures answers { ImagesAnswer (places_of images) 5 images.target (λ d. sets_image d (Some hash.now) confirm) result.images result.result (F.state flash.old) (F.state flash.new) }
+    ensures answer { IfOk result.result (λ reply. IsImageReply (said_of reply)) }
     ensures untouched { is_hash_taken (Some hash.now) confirm ≡ false → Untouched images result (F.state flash.old) (F.state flash.new) }
     ensures mounts { is_hash_taken (Some hash.now) confirm ≡ true → MountsResult (places_of images) images result.images result.result (F.state flash.old) (F.state flash.new) }
 {
@@ -233,6 +239,7 @@ pub fn set<F: Flash>(images: Images, flash: &mut F, hash: Option<&[u8]>, confirm
     requires places { ArePlaces (F.state flash.old).geometry (places_of images) }
     requires says { IfSome (F.state flash.old).bytes (ImagesSay images) }
     ensures answers { ImagesAnswer (places_of images) 5 images.target (λ d. does (sizes_of (F.state flash.old).geometry) d (meant.image_set (option_map (λ h. h.now) hash.entry) confirm)) result.images result.result (F.state flash.old) (F.state flash.new) }
+    ensures answer { IfOk result.result (λ reply. IsImageReply (said_of reply)) }
     ensures untouched { Untouches (sizes_of (F.state flash.old).geometry) (meant.image_set (option_map (λ h. h.now) hash.entry) confirm) images result (F.state flash.old) (F.state flash.new) }
     ensures mounts { MountsAll (sizes_of (F.state flash.old).geometry) (meant.image_set (option_map (λ h. h.now) hash.entry) confirm) images result (F.state flash.old) (F.state flash.new) }
 {

@@ -1,10 +1,11 @@
 //! The list of images.
 
-ghost use Rattle.std.specs.Prelude.{◌≡◌, [], IfSome};
+ghost use Rattle.std.specs.Prelude.{◌≡◌, [], IfOk, IfSome};
 ghost use Rattle.smp_model.specs.Does.{does};
 ghost use Rattle.smp_model.specs.ImageGroup.{lists_after};
 ghost use Rattle.smp_model.specs.Meant as meant;
-ghost use Rattle.smp_device.specs.Answers.{ImagesAnswer};
+ghost use Rattle.smp_model.specs.Said.{said_of};
+ghost use Rattle.smp_device.specs.Answers.{ImagesAnswer, IsImageReply};
 ghost use Rattle.smp_side.specs.Held.{is_ok};
 ghost use Rattle.smp_device.specs.Mounts.{MountsResult, MountsSettled};
 ghost use Rattle.smp_device.specs.Places.{ArePlaces, ImagesSay, places_of};
@@ -31,6 +32,7 @@ fn list_alone<F: Flash>(zero: Mounted, target: u32, flash: &mut F) -> Replied
     requires places { ArePlaces (F.state flash.old).geometry (alone_places zero) }
     requires says { IfSome (F.state flash.old).bytes (SettledSay (alone_settled zero target)) }
     ensures answers { ImagesAnswer (alone_places zero) 0 target (lists_after []) result.images result.result (F.state flash.old) (F.state flash.new) }
+    ensures answer { IfOk result.result (λ reply. IsImageReply (said_of reply)) }
     ensures mounts { MountsSettled result.images.zero result.images.one (is_ok result.result) }
 {
     side_laws();
@@ -62,6 +64,7 @@ fn list_both<F: Flash>(zero: Mounted, one: Mounted, target: u32, flash: &mut F) 
     requires places { ArePlaces (F.state flash.old).geometry (both_places zero one) }
     requires says { IfSome (F.state flash.old).bytes (SettledSay (both_settled zero one target)) }
     ensures answers { ImagesAnswer (both_places zero one) 0 target (lists_after []) result.images result.result (F.state flash.old) (F.state flash.new) }
+    ensures answer { IfOk result.result (λ reply. IsImageReply (said_of reply)) }
     ensures mounts { MountsSettled result.images.zero result.images.one (is_ok result.result) }
 {
     side_laws();
@@ -107,6 +110,7 @@ pub fn list_settled<F: Flash>(settled: Settled, flash: &mut F) -> Replied
     requires places { ArePlaces (F.state flash.old).geometry (settled_places settled) }
     requires says { IfSome (F.state flash.old).bytes (SettledSay settled) }
     ensures answers { ImagesAnswer (settled_places settled) 0 settled.target (lists_after []) result.images result.result (F.state flash.old) (F.state flash.new) }
+    ensures answer { IfOk result.result (λ reply. IsImageReply (said_of reply)) }
     ensures mounts { MountsSettled result.images.zero result.images.one (is_ok result.result) }
 {
     let Settled { zero, one, target } = settled;
@@ -121,6 +125,7 @@ pub fn list<F: Flash>(images: Images, flash: &mut F) -> Replied
     requires places { ArePlaces (F.state flash.old).geometry (places_of images) }
     requires says { IfSome (F.state flash.old).bytes (ImagesSay images) }
     ensures answers { ImagesAnswer (places_of images) 5 images.target (λ d. does (sizes_of (F.state flash.old).geometry) d meant.image_list) result.images result.result (F.state flash.old) (F.state flash.new) }
+    ensures answer { IfOk result.result (λ reply. IsImageReply (said_of reply)) }
     ensures mounts { MountsResult (places_of images) images result.images result.result (F.state flash.old) (F.state flash.new) }
 {
     side_laws();

@@ -25,8 +25,8 @@ use smp_flash::Flash;
 use smp_gate::BankFault;
 use smp_model::error::{
     FILE_GROUP, FILE_NAME_LENGTH, FILE_TOO_LONG, INVALID_VALUE, NO_FREE_FILE, NO_SUCH_FILE,
-    NO_SUCH_SETTING, PAST_FILE_END, SETTINGS_FULL, SETTINGS_GROUP, SETTING_NAME_LENGTH,
-    SETTING_VALUE_LENGTH,
+    NO_SUCH_SETTING, PAST_FILE_END, SETTING_NAME_LENGTH, SETTING_VALUE_LENGTH, SETTINGS_FULL,
+    SETTINGS_GROUP,
 };
 use smp_model::{Reply, Request, UploadPart};
 use smp_settings::{SettingFault, Settings};

@@ -1,11 +1,12 @@
 //! Marks and confirmations, over images of which all are mounted.
 
-ghost use Rattle.std.specs.Prelude.{◌≡◌, true, Some, IfSome};
+ghost use Rattle.std.specs.Prelude.{◌≡◌, true, Some, IfOk, IfSome};
 ghost use Rattle.smp_flash.specs.Layout.{geometry_of};
-ghost use Rattle.smp_side.specs.Held.{Answers, is_mounted, is_ok, response_of};
+ghost use Rattle.smp_side.specs.Held.{Answers, IsAnswer, is_mounted, is_ok, response_of};
 ghost use Rattle.smp_side.specs.declared.held.Held.TheVariants as helds;
 ghost use Rattle.smp_upload.specs.States.{Says, known_mounted};
-ghost use Rattle.smp_device.specs.Answers.{ImagesAnswer};
+ghost use Rattle.smp_model.specs.Said.{said_of};
+ghost use Rattle.smp_device.specs.Answers.{ImagesAnswer, IsImageReply};
 ghost use Rattle.smp_device.specs.Mounts.{MountsSettled};
 ghost use Rattle.smp_device.specs.Places.{ArePlaces};
 ghost use Rattle.smp_device.specs.Setting.{CanAct, act_steps, acts_on, is_done};
@@ -34,7 +35,8 @@ fn act_on<F: Flash>(mounted: Mounted, flash: &mut F, act: Act) -> Handed
     requires layout { geometry_of (known_mounted mounted).layout ≡ (F.state flash.old).geometry }
     requires says { IfSome (F.state flash.old).bytes (Says (known_mounted mounted)) }
     requires can { CanAct act mounted }
-    ensures { Answers (known_mounted mounted).layout 0 (λ side. response_of (act_steps act side)) result (F.state flash.old) (F.state flash.new) }
+    ensures answers { Answers (known_mounted mounted).layout 0 (λ side. response_of (act_steps act side)) result (F.state flash.old) (F.state flash.new) }
+    ensures answer { IfOk result.result (λ reply. IsAnswer (said_of reply)) }
 {
     match act {
         Act::Confirm(asked) => confirm(mounted, flash, asked),
@@ -83,6 +85,7 @@ pub fn act_first<F: Flash>(settled: Settled, flash: &mut F, act: Act) -> Replied
     requires says { IfSome (F.state flash.old).bytes (SettledSay settled) }
     requires can { CanAct act settled.zero }
     ensures answers { ImagesAnswer (settled_places settled) 0 settled.target (acts_on act 0) result.images result.result (F.state flash.old) (F.state flash.new) }
+    ensures answer { IfOk result.result (λ reply. IsImageReply (said_of reply)) }
     ensures mounts { MountsSettled result.images.zero result.images.one (is_ok result.result) }
 {
     side_laws();
@@ -118,6 +121,7 @@ pub fn act_second<F: Flash>(
     requires says { IfSome (F.state flash.old).bytes (SettledSay (both_settled zero one target)) }
     requires can { CanAct act one }
     ensures answers { ImagesAnswer (both_places zero one) 0 target (acts_on act 1) result.images result.result (F.state flash.old) (F.state flash.new) }
+    ensures answer { IfOk result.result (λ reply. IsImageReply (said_of reply)) }
     ensures mounts { MountsSettled result.images.zero result.images.one (is_ok result.result) }
 {
     side_laws();

@@ -1,10 +1,11 @@
 //! A request about one image, over the device's images.
 
-ghost use Rattle.std.specs.Prelude.{◌≡◌, Err, None, IfErr, IfSome};
+ghost use Rattle.std.specs.Prelude.{◌≡◌, Err, None, IfErr, IfOk, IfSome};
 ghost use Rattle.smp_flash.specs.Layout.{geometry_of};
 ghost use Rattle.smp_upload.specs.States.{Says, known_mounted};
-ghost use Rattle.smp_side.specs.Held.{Answers, HeldSays, held_layout};
-ghost use Rattle.smp_device.specs.Answers.{ImagesAnswer};
+ghost use Rattle.smp_side.specs.Held.{Answers, IsAnswer, HeldSays, held_layout};
+ghost use Rattle.smp_model.specs.Said.{said_of};
+ghost use Rattle.smp_device.specs.Answers.{ImagesAnswer, IsImageReply};
 ghost use Rattle.smp_device.specs.Asked.{AskedAt};
 ghost use Rattle.smp_device.specs.Mounts.{FellIn, Untouched};
 ghost use Rattle.smp_device.specs.Places.{ArePlaces, ImagesSay, place_at, places_of};
@@ -24,6 +25,7 @@ fn ask_side<F: Flash>(mounted: Mounted, flash: &mut F, request: &SideRequest<'_>
     requires says { IfSome (F.state flash.old).bytes (Says (known_mounted mounted)) }
     requires start { IsStart (geometry_of (known_mounted mounted).layout) request.now }
     ensures answers { Answers (known_mounted mounted).layout 3 (side_response (geometry_of (known_mounted mounted).layout).unit request.now) result (F.state flash.old) (F.state flash.new) }
+    ensures answer { IfOk result.result (λ reply. IsAnswer (said_of reply)) }
     ensures erased { Erases (known_mounted mounted).layout request.now result.result (F.state flash.new).bytes }
 {
     match *request {
@@ -65,7 +67,8 @@ fn ask_held<F: Flash>(
     requires layout { geometry_of (held_layout held) ≡ (F.state flash.old).geometry }
     requires says { IfSome (F.state flash.old).bytes (HeldSays held) }
     requires start { IsStart (F.state flash.old).geometry request.now }
-    ensures { AskedAt (held_layout held) image target request.now result (F.state flash.old) (F.state flash.new) }
+    ensures asked { AskedAt (held_layout held) image target request.now result (F.state flash.old) (F.state flash.new) }
+    ensures answer { IfOk result.result (λ reply. IsAnswer (said_of reply)) }
 {
     side_laws();
     sides_are_told_apart();
@@ -96,6 +99,7 @@ fn ask_zero<F: Flash>(images: Images, flash: &mut F, request: &SideRequest<'_>) 
     requires says { IfSome (F.state flash.old).bytes (ImagesSay images) }
     requires start { IsStart (F.state flash.old).geometry request.now }
     ensures answers { ImagesAnswer (places_of images) 5 images.target (responds_on (F.state flash.old).geometry.unit request.now 0) result.images result.result (F.state flash.old) (F.state flash.new) }
+    ensures answer { IfOk result.result (λ reply. IsImageReply (said_of reply)) }
     ensures mounts { MountsOf 0 images result }
     ensures fell { IfErr result.result (λ fault. FellIn (places_of images) 5 0 fault (F.state flash.old) (F.state flash.new)) }
     ensures erased { ErasesAt (places_of images) 0 request.now result.result (F.state flash.new).bytes }
@@ -119,6 +123,7 @@ fn ask_one<F: Flash>(images: Images, flash: &mut F, request: &SideRequest<'_>) -
     requires says { IfSome (F.state flash.old).bytes (ImagesSay images) }
     requires start { IsStart (F.state flash.old).geometry request.now }
     ensures answers { ImagesAnswer (places_of images) 5 images.target (responds_on (F.state flash.old).geometry.unit request.now 1) result.images result.result (F.state flash.old) (F.state flash.new) }
+    ensures answer { IfOk result.result (λ reply. IsImageReply (said_of reply)) }
     ensures mounts { MountsOf 1 images result }
     ensures fell { IfErr result.result (λ fault. FellIn (places_of images) 5 1 fault (F.state flash.old) (F.state flash.new)) }
     ensures erased { ErasesAt (places_of images) 1 request.now result.result (F.state flash.new).bytes }
@@ -171,6 +176,7 @@ pub fn ask_image<F: Flash>(
     requires says { IfSome (F.state flash.old).bytes (ImagesSay images) }
     requires start { IsStart (F.state flash.old).geometry request.now }
     ensures answers { ImagesAnswer (places_of images) 5 images.target (responds_on (F.state flash.old).geometry.unit request.now image) result.images result.result (F.state flash.old) (F.state flash.new) }
+    ensures answer { IfOk result.result (λ reply. IsImageReply (said_of reply)) }
     ensures mounts { MountsOf image images result }
     ensures fell { IfErr result.result (λ fault. FellIn (places_of images) 5 image fault (F.state flash.old) (F.state flash.new)) }
     ensures erased { ErasesAt (places_of images) image request.now result.result (F.state flash.new).bytes }

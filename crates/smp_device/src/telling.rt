@@ -12,11 +12,11 @@ ghost use Rattle.smp_device.specs.Telling.{Fitting};
 
 use sha2::{Digest, Sha256};
 use smp_files::FileTable;
+use smp_model::Reply;
 use smp_model::error::{
     FILE_GROUP, FILE_NAME_LENGTH, NO_SUCH_FILE, NO_SUCH_HASH, NO_SUCH_SETTING, PAST_FILE_END,
-    SETTINGS_GROUP, SETTING_NAME_LENGTH,
+    SETTING_NAME_LENGTH, SETTINGS_GROUP,
 };
-use smp_model::Reply;
 use smp_settings::Settings;
 
 /// The most bytes of a file that are read at once.

@@ -5,12 +5,14 @@ ghost use Rattle.smp_flash.specs.Geometry.{slot_size, Regular, is_lawful};
 ghost use Rattle.std.specs.Prelude.{IsTrue};
 ghost use Rattle.smp_flash.specs.Layout.{geometry_of};
 ghost use Rattle.smp_model.specs.Does.{does};
+ghost use Rattle.smp_model.specs.Errors.{IsGroupError};
 ghost use Rattle.smp_model.specs.Due.{image_for};
 ghost use Rattle.smp_model.specs.FlashUse.{is_start_taken};
 ghost use Rattle.smp_model.specs.ImageGroup.{begins_with_magic, has_wrong_size, side_of};
 ghost use Rattle.smp_model.specs.Meant as meant;
 ghost use Rattle.smp_side.specs.Held.{held_layout};
-ghost use Rattle.smp_device.specs.Answers.{ImagesAnswer};
+ghost use Rattle.smp_model.specs.Said.{said_of};
+ghost use Rattle.smp_device.specs.Answers.{ImagesAnswer, IsImageReply};
 ghost use Rattle.smp_device.specs.Mounts.{MountsItsOwn, MountsOne, Untouched, Untouches};
 ghost use Rattle.smp_device.specs.Places.{ArePlaces, ImagesSay, place_at, places_of};
 ghost use Rattle.smp_device.specs.Requests.{ErasesFor};
@@ -100,6 +102,7 @@ fn announced(
     bytes: &[u8],
 ) -> Result<Announcement, u32>
     ensures announces { Announces room len (option_map (λ s. s.now) sha.entry) bytes.now result }
+    ensures known { IfErr result (IsGroupError IMAGE_GROUP) }
     ensures long { OnOk result (32 ≤ length bytes.now) }
     ensures fits { IfOk result (λ a. a.length ≤ room) }
 {
@@ -145,6 +148,7 @@ fn upload_start<F: Flash>(
     requires meant { image ≡ side_of images.target part.now.image part.now.off (option_map (λ s. s.now) part.now.sha) }
     requires first { part.now.off ≡ 0 }
     ensures answers { ImagesAnswer (places_of images) 5 images.target (λ d. does (sizes_of (F.state flash.old).geometry) d (meant.upload part.now.image part.now.len part.now.off (option_map (λ s. s.now) part.now.sha) part.now.bytes.now)) result.images result.result (F.state flash.old) (F.state flash.new) }
+    ensures answer { IfOk result.result (λ reply. IsImageReply (said_of reply)) }
     ensures untouched { is_start_taken (sizes_of (F.state flash.old).geometry) part.now.len (option_map (λ s. s.now) part.now.sha) part.now.bytes.now ≡ false → Untouched images result (F.state flash.old) (F.state flash.new) }
     ensures mounts { is_start_taken (sizes_of (F.state flash.old).geometry) part.now.len (option_map (λ s. s.now) part.now.sha) part.now.bytes.now ≡ true → MountsOne (places_of images) image images result (F.state flash.old) (F.state flash.new) }
 {
@@ -176,6 +180,7 @@ fn upload_part<F: Flash>(
     requires meant { image ≡ side_of images.target part.now.image part.now.off (option_map (λ s. s.now) part.now.sha) }
     requires further { part.now.off ≡ 0 → ⊥ }
     ensures answers { ImagesAnswer (places_of images) 5 images.target (λ d. does (sizes_of (F.state flash.old).geometry) d (meant.upload part.now.image part.now.len part.now.off (option_map (λ s. s.now) part.now.sha) part.now.bytes.now)) result.images result.result (F.state flash.old) (F.state flash.new) }
+    ensures answer { IfOk result.result (λ reply. IsImageReply (said_of reply)) }
     ensures untouched { has_wrong_size (option_map (λ s. s.now) part.now.sha) ≡ true → Untouched images result (F.state flash.old) (F.state flash.new) }
     ensures mounts { has_wrong_size (option_map (λ s. s.now) part.now.sha) ≡ false → MountsOne (places_of images) image images result (F.state flash.old) (F.state flash.new) }
 {
@@ -198,6 +203,7 @@ pub fn upload<F: Flash>(images: Images, flash: &mut F, part: &UploadPart<'_>) ->
     requires places { ArePlaces (F.state flash.old).geometry (places_of images) }
     requires says { IfSome (F.state flash.old).bytes (ImagesSay images) }
     ensures answers { ImagesAnswer (places_of images) 5 images.target (λ d. does (sizes_of (F.state flash.old).geometry) d (meant.upload part.now.image part.now.len part.now.off (option_map (λ s. s.now) part.now.sha) part.now.bytes.now)) result.images result.result (F.state flash.old) (F.state flash.new) }
+    ensures answer { IfOk result.result (λ reply. IsImageReply (said_of reply)) }
     ensures untouched { Untouches (sizes_of (F.state flash.old).geometry) (meant.upload part.now.image part.now.len part.now.off (option_map (λ s. s.now) part.now.sha) part.now.bytes.now) images result (F.state flash.old) (F.state flash.new) }
     ensures mounts { MountsItsOwn (sizes_of (F.state flash.old).geometry) (meant.upload part.now.image part.now.len part.now.off (option_map (λ s. s.now) part.now.sha) part.now.bytes.now) images result (F.state flash.old) (F.state flash.new) }
 {
@@ -216,6 +222,7 @@ pub fn erase<F: Flash>(images: Images, flash: &mut F, slot: u32) -> Replied
     requires places { ArePlaces (F.state flash.old).geometry (places_of images) }
     requires says { IfSome (F.state flash.old).bytes (ImagesSay images) }
     ensures answers { ImagesAnswer (places_of images) 5 images.target (λ d. does (sizes_of (F.state flash.old).geometry) d (meant.erase slot)) result.images result.result (F.state flash.old) (F.state flash.new) }
+    ensures answer { IfOk result.result (λ reply. IsImageReply (said_of reply)) }
     ensures untouched { Untouches (sizes_of (F.state flash.old).geometry) (meant.erase slot) images result (F.state flash.old) (F.state flash.new) }
     ensures mounts { MountsItsOwn (sizes_of (F.state flash.old).geometry) (meant.erase slot) images result (F.state flash.old) (F.state flash.new) }
     ensures erased { ErasesFor (places_of images) (image_for images.target (meant.erase slot)) result.result (F.state flash.new).bytes }

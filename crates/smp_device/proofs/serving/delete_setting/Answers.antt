@@ -1,7 +1,6 @@
-use Rattle.std.proofs.Common.{◌≡◌, sym, ◌∙◌, ap, Ok, true, false}
-use Rattle.std.specs.Prelude.{IsTrue}
+use Rattle.std.proofs.Common.{sym, ◌∙◌, ap, Ok, true, false}
 use Rattle.smp_model.specs.Meant as meant
-use Rattle.smp_model.specs.declared.error.TheConstants.{SETTINGS_GROUP, SETTING_NAME_LENGTH, NO_SUCH_SETTING}
+use Rattle.smp_model.specs.declared.error.TheConstants.{SETTINGS_GROUP, SETTING_NAME_LENGTH}
 use Rattle.smp_model.specs.declared.reply.Reply.{Reply}
 use Rattle.smp_model.specs.declared.reply.Reply.TheVariants as replied
 use Rattle.smp_device.specs.Up.{up_of}

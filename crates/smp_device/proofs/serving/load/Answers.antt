@@ -1,6 +1,6 @@
-use Rattle.std.proofs.Common.{Ok, Err, true, false}
+use Rattle.std.proofs.Common.{Ok}
 use Rattle.smp_model.specs.Meant as meant
-use Rattle.smp_device.specs.Serving.{bank_reply, setting_reply}
+use Rattle.smp_device.specs.Serving.{bank_reply}
 use Rattle.smp_device.specs.Up.{up_of}
 use Rattle.smp_device.proofs.ServingQuietly.{served_as}
 use Rattle.smp_device.proofs.ServingSettings.{load_served}

@@ -1,4 +1,4 @@
-use Rattle.std.proofs.Common.{sym, ap, Ok, ℕ}
+use Rattle.std.proofs.Common.{ap}
 use Rattle.std.specs.Prelude.{option_map}
 use Rattle.smp_model.specs.Meant as meant
 use Rattle.smp_model.specs.Meant.{meant_of}

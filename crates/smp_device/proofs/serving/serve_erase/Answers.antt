@@ -1,9 +1,11 @@
-use Rattle.std.specs.Prelude.{option_map}
 use Rattle.smp_model.specs.Meant as meant
 use Rattle.smp_device.specs.Up.{up_of}
-use Rattle.smp_device.proofs.ServingImages.{images_served}
+use Rattle.smp_device.proofs.ServingImages.{images_fit, images_served}
 use Rattle.smp_device.proofs.serving.serve_erase.Goals as goal
 
 pub returns-clause-serves : goal.returns-clause-serves
 returns-clause-serves g c = λ files counters.
     images_served c.device_laws.ensures (g.F.Flash.state c.args.flash.now).geometry (meant.erase c.args.slot) tt (up_of c.args.images c.args.settings.now files counters) c.erase.result.images c.erase.result.result (g.F.Flash.state c.args.flash.now) (g.F.Flash.state c.erase.new.flash) c.requires.regions c.requires.says c.erase.ensures.answers
+
+pub returns-clause-fits : goal.returns-clause-fits
+returns-clause-fits g c = images_fit c.erase.result.result c.erase.ensures.answer

@@ -1,4 +1,3 @@
-use Rattle.smp_model.specs.Meant as meant
 use Rattle.smp_device.specs.Up.{up_of}
 use Rattle.smp_device.proofs.ServingFiles.{file_served}
 use Rattle.smp_device.proofs.serving.write_file.Goals as goal

@@ -32,17 +32,17 @@ ask_held-asked-requires-clause-says g c = second_says c.args.images c.in-Some.he
 
 pub returns-in-Some-clause-answers : goal.returns-in-Some-clause-answers
 returns-in-Some-clause-answers g c =
-    answer_one c.side_laws.ensures c.args.images c.in-Some.held c.in-Some.is c.args.request.now c.ask_held-asked.result (g.F.Flash.state c.args.flash.now) (g.F.Flash.state c.ask_held-asked.new.flash) c.requires.places c.requires.says c.ask_held-asked.ensures
+    answer_one c.side_laws.ensures c.args.images c.in-Some.held c.in-Some.is c.args.request.now c.ask_held-asked.result (g.F.Flash.state c.args.flash.now) (g.F.Flash.state c.ask_held-asked.new.flash) c.requires.places c.requires.says c.ask_held-asked.ensures.asked
 
 pub returns-in-Some-clause-mounts : goal.returns-in-Some-clause-mounts
-returns-in-Some-clause-mounts g c = (refl, c.ask_held-asked.ensures.mounted)
+returns-in-Some-clause-mounts g c = (refl, c.ask_held-asked.ensures.asked.mounted)
 
 pub returns-in-Some-clause-fell : goal.returns-in-Some-clause-fell
-returns-in-Some-clause-fell g c = (c.ask_held-asked.ensures.answers (places_of c.args.images) c.requires.places (ap (option_map held_layout) c.in-Some.is)).fell
+returns-in-Some-clause-fell g c = (c.ask_held-asked.ensures.asked.answers (places_of c.args.images) c.requires.places (ap (option_map held_layout) c.in-Some.is)).fell
 
 pub returns-in-Some-clause-absent : goal.returns-in-Some-clause-absent
 returns-in-Some-clause-absent g c = λ none. held_untouched c.args.images c.in-Some.held _ _ _ c.in-Some.is none
 
 pub returns-in-Some-clause-erased : goal.returns-in-Some-clause-erased
 returns-in-Some-clause-erased g c =
-    erases_at (places_of c.args.images) 1 (held_layout c.in-Some.held) (held_layout c.in-Some.held) c.args.request.now c.ask_held-asked.result.result (g.F.Flash.state c.ask_held-asked.new.flash).bytes (ap (option_map held_layout) c.in-Some.is) refl c.ask_held-asked.ensures.erased
+    erases_at (places_of c.args.images) 1 (held_layout c.in-Some.held) (held_layout c.in-Some.held) c.args.request.now c.ask_held-asked.result.result (g.F.Flash.state c.ask_held-asked.new.flash).bytes (ap (option_map held_layout) c.in-Some.is) refl c.ask_held-asked.ensures.asked.erased

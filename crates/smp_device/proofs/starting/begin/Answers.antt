@@ -1,5 +1,5 @@
 use Rattle.std.proofs.Common.{sym, ◌∙◌}
-use Rattle.smp_device.proofs.Beginnings.{saved_law, start_done, start_says, start_unconfirmed, start_unmounted, start_unread}
+use Rattle.smp_device.proofs.Beginnings.{saved_law, start_done, start_says, start_unconfirmed, start_unmounted}
 use Rattle.smp_device.proofs.starting.begin.Goals as goal
 
 pub returns-in-Err-mount_images-clause-starts : goal.returns-in-Err-mount_images-clause-starts

@@ -1,4 +1,4 @@
-use Rattle.std.proofs.Common.{sym, refl, ap, Option}
+use Rattle.std.proofs.Common.{refl}
 use Rattle.smp_flash.specs.State.End.{Went}
 use Rattle.smp_flash.proofs.Passing.{Calls-after}
 use Rattle.smp_device.specs.Places.{spots_of}

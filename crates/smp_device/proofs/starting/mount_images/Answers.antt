@@ -1,5 +1,3 @@
-use Rattle.std.proofs.Common.{Ok, Err}
-use Rattle.smp_upload.specs.Mounting.{Mounts}
 use Rattle.smp_device.proofs.Starts.{first_lost, mounted_behind, places_behind, target_behind}
 use Rattle.smp_device.proofs.starting.mount_images.Goals as goal
 

@@ -9,6 +9,7 @@ use Rattle.smp_device.specs.Uploads.{sizes_of}
 use Rattle.smp_device.specs.declared.images.SideRequest.TheVariants as asks
 use Rattle.smp_device.proofs.Fields.{images_as, refused_here, room_is, start_fit, start_unfit}
 use Rattle.smp_device.proofs.Mounting.{answered_untouched, mounts_one, refused_mounts, taken_untouched}
+use Rattle.smp_device.proofs.Fields.{refused_answer}
 use Rattle.smp_device.proofs.uploads.upload_start.Goals as goal
 
 pub returns-in-Ok-clause-answers : goal.returns-in-Ok-clause-answers
@@ -38,3 +39,6 @@ pub returns-in-Err-clause-mounts : goal.returns-in-Err-clause-mounts
 returns-in-Err-clause-mounts g c =
     refused_mounts (g.F.Flash.state c.args.flash.now).geometry c.args.part.now.len (option_map (λ s. s.now) c.args.part.now.sha) c.args.part.now.bytes.now c.in-Err.number (places_of c.args.images) c.args.image c.args.images c.refused.result (g.F.Flash.state c.args.flash.now) (g.F.Flash.state c.args.flash.now)
     (room_is (g.F.Flash.state c.args.flash.now).geometry c.sizes-geometry.result c.slot_size.result c.args.part.now.len (option_map (λ s. s.now) c.args.part.now.sha) c.args.part.now.bytes.now (Err c.in-Err.number) (c.sizes-geometry.ensures.same ∙ c.requires.places.first.0) c.slot_size.ensures.size c.in-Err.ensures.announces)
+
+pub returns-in-Err-clause-answer : goal.returns-in-Err-clause-answer
+returns-in-Err-clause-answer g c = refused_answer c.args.images c.in-Err.number c.refused.result c.refused.ensures c.in-Err.ensures.known

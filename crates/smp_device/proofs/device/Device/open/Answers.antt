@@ -1,4 +1,4 @@
-use Rattle.std.proofs.Common.{refl, sym, ◌∙◌}
+use Rattle.std.proofs.Common.{refl, ◌∙◌}
 use Rattle.smp_flash.specs.Layout.{geometry_of}
 use Rattle.smp_device.specs.Starting.{start_fault}
 use Rattle.smp_device.proofs.Beginnings.{counts_none, open_fails, places_all, places_of_sizes}
