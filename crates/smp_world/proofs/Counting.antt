@@ -1,5 +1,5 @@
 -- Regions by what they count: whatever changes what is durable, saves, or steps on the sides.
-use Rattle.std.proofs.Common.{◌≡◌, ◌∷◌, inl, inr, List, [], ℕ, Bool, refl}
+use Rattle.std.proofs.Common.{◌≡◌, ◌∷◌, inl, inr, List, [], ℕ, refl}
 use Rattle.smp_flash.specs.declared.region.Region.{Region}
 use Rattle.smp_flash.specs.declared.region.Region.TheVariants as regions
 use Rattle.smp_model.specs.declared.device.AbstractDevice.{AbstractDevice}

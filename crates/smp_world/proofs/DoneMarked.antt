@@ -5,20 +5,20 @@ use Rattle.smp_model.specs.declared.device.AbstractDevice.{AbstractDevice}
 use Rattle.smp_model.specs.declared.device.Sizes.{Sizes}
 use Rattle.smp_model.specs.declared.upload.Ending.{Ending}
 use Rattle.smp_model.specs.declared.upload.Ending.TheVariants as endings
-use Rattle.smp_model.specs.Said.{Said, reply_message}
+use Rattle.smp_model.specs.Said.{reply_message}
 use Rattle.smp_model.specs.Steps.{applied}
 use Rattle.smp_jobs.specs.Clients.{Client, packet_of}
 use Rattle.smp_jobs.specs.Jobs.{UploadJob, uploads, done}
 use Rattle.smp_world.specs.Runs.{Event, Moment, Run as IsRun, state_at_end, first_state}
 use Rattle.smp_world.specs.UploadJobs.{IsMarked, IsNotRaw, Begun, AreTagged, AreDifferent}
 use Rattle.smp_world.specs.Below.{LawsBelow}
-use Rattle.smp_world.proofs.DoneRuns.{IsKept, Sound, done_knows}
-use Rattle.smp_world.proofs.Marked.{Marked, IsOwn, marked_is}
+use Rattle.smp_world.proofs.DoneJobs.{Sound, done_knows}
+use Rattle.smp_world.proofs.Marked.{IsOwn, marked_is}
 use Rattle.smp_world.proofs.Pending.{RequestsSame}
-use Rattle.smp_world.proofs.Replies.{PartsTrue, part_true}
+use Rattle.smp_world.proofs.UploadReplies.{part_true}
 use Rattle.smp_world.proofs.FairSteps.{Uploads}
 use Rattle.smp_world.proofs.TaggedRuns.{all_among}
-use Rattle.smp_world.proofs.Uploaders.{Knows, DoneBy, IsTrue}
+use Rattle.smp_world.proofs.UploadClients.{Knows, DoneBy, IsTrue}
 
 -- such a job knows nothing of its upload but by its mark
 abbrev Nothing : Knows

@@ -1,12 +1,12 @@
 -- The steps of a request are due, each at the device that it finds.
-use Rattle.std.proofs.Common.{◌≡◌, ℕ, List, [], ◌∷◌, ◌++◌, subst}
+use Rattle.std.proofs.Common.{ℕ, List}
 use Rattle.smp_model.specs.declared.device.AbstractDevice.{AbstractDevice}
 use Rattle.smp_model.specs.declared.device.Sizes.{Sizes}
 use Rattle.smp_model.specs.Does.{does}
 use Rattle.smp_model.specs.Due.{IsStepDue}
 use Rattle.smp_model.specs.Laws.{Along}
 use Rattle.smp_model.specs.Meant.{Meant}
-use Rattle.smp_model.specs.Steps.{Step, applied}
+use Rattle.smp_model.specs.Steps.{Step}
 use Rattle.smp_world.specs.Below.{StepsAreDue}
 use Rattle.smp_world.proofs.Sides.{along_fronts}
 

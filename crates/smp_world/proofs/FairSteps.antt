@@ -1,7 +1,6 @@
 -- What requests of upload jobs make of a side: its upload stays a front of the file of a job for that image.
-use Rattle.std.proofs.Common.{◌≡◌, ◌⊎◌, inl, inr, ◌+◌, ◌==◌, ◌&&◌, ◌||◌, nat_lt, if◌then◌else◌, ℕ, zero, suc, List, [], ◌∷◌, ◌++◌, length, take, drop, Bool, true, false, Option, Some, None, refl, sym, ap, subst, ◌∙◌, arith, append-nil, length-append}
-use Rattle.std.specs.Prelude.{is_some, IsTrue}
-use Rattle.std.specs.Str.{bytes_eq}
+use Rattle.std.proofs.Common.{◌≡◌, ◌⊎◌, inl, inr, ◌+◌, ◌==◌, ◌&&◌, ◌||◌, nat_lt, if◌then◌else◌, ℕ, zero, suc, List, [], ◌∷◌, ◌++◌, length, take, drop, Bool, true, false, Option, Some, None, refl, sym, subst, ◌∙◌, arith, length-append}
+use Rattle.std.specs.Prelude.{IsTrue}
 use Rattle.std.proofs.lemmas.List.{take-append-drop}
 use Rattle.std.proofs.lemmas.Slice.Eq.{bytes_eq-Decides}
 use Rattle.std.proofs.lemmas.Bool.Decides.{nat_tests}
@@ -14,7 +13,7 @@ use Rattle.smp_model.specs.declared.upload.Announcement.{Announcement}
 use Rattle.smp_model.specs.declared.upload.Mark.{Mark}
 use Rattle.smp_model.specs.Does.{does}
 use Rattle.smp_model.specs.Due.{IsUpload as IsUploadRequest, IsErase, Announces, IsSideStepDue, IsStepDue}
-use Rattle.smp_model.specs.ImageGroup.{completes, keeps, takes_part, part_at, begins, new_start, resumes, start_at, side_of, is_offset, aims, uploads}
+use Rattle.smp_model.specs.ImageGroup.{completes, keeps, takes_part, part_at, new_start, resumes, start_at, side_of, is_offset, aims}
 use Rattle.smp_model.specs.Laws.{Along}
 use Rattle.smp_model.specs.Meant as meant
 use Rattle.smp_model.specs.Meant.{Meant}
@@ -25,9 +24,9 @@ use Rattle.smp_model.specs.Steps.{Step, OnSide, Save, Run, aim_at, side_at, appl
 use Rattle.smp_model.specs.Uploads.{differs, is_spoiled, kept, is_resumed_by, same_digest, is_tagged_by}
 use Rattle.smp_world.proofs.Due.{AllDue, does_due}
 use Rattle.smp_world.specs.Below.{StepsAreDue}
-use Rattle.smp_world.proofs.Sides.{SideAlong, lifted, along_more, kept_along, applied_more, found_after, found_other, side_changed, side_saved, side_step}
+use Rattle.smp_world.proofs.Sides.{SideAlong, lifted, along_more, kept_along, found_after, found_other, side_changed, side_saved, side_step}
 use Rattle.smp_world.proofs.Sides.{the_same}
-use Rattle.smp_world.proofs.UploadRequests.{upload_cases, announced, starting, aims_leave}
+use Rattle.smp_world.proofs.UploadRequests.{upload_cases, starting, aims_leave}
 use Rattle.smp_jobs.specs.Jobs.{UploadJob, image_key, start_of, part_of}
 use Rattle.smp_world.specs.UploadJobs.{IsFront, announcement_of, AreTagged}
 use Rattle.smp_world.proofs.Cases.{by_if}
@@ -115,8 +114,10 @@ new_fair : (J : Uploads) (i unit : ℕ) (s : Side) (j : UploadJob) (p : Option M
 new_fair J i unit s j (Some m) is on n = tt
 new_fair J i unit s j None is on n =
     by_if (FairOn J i s) (nat_lt (length j.file) (length (take j.chunk j.file))) _ _ (λ _. tt)
-    (λ _. ((record { job = j; is = is; on = on; announced = refl; front = (j.file, refl) }, n),
-    takes_fair J i unit s (announcement_of j) [] (take j.chunk j.file) (record { job = j; is = is; on = on; announced = refl; front = chunk_front j.chunk j.file })))
+    (λ _. (
+      (record { job = j; is = is; on = on; announced = refl; front = (j.file, refl) }, n),
+      takes_fair J i unit s (announcement_of j) [] (take j.chunk j.file) (record { job = j; is = is; on = on; announced = refl; front = chunk_front j.chunk j.file }),
+    ))
 
 -- the same digest
 both_true : (b c : Bool) → (b && c) ≡ true → (b ≡ true) × (c ≡ true)

@@ -1,213 +1,39 @@
 -- Over a link that delivers, an upload takes few packets.
-use Rattle.std.proofs.Common.{◌≡◌, ◌⊎◌, inl, inr, ◌≤◌, ◌<◌, ◌+◌, ◌-◌, ◌*◌, ◌/◌, ◌%◌, ◌==◌, if◌then◌else◌, Result, Ok, Err, ℕ, zero, suc, List, [], ◌∷◌, ◌++◌, length, Bool, true, false, Option, Some, None, refl, sym, ap, subst, ◌∙◌, arith, eq-eqb, length-append}
+use Rattle.std.proofs.Common.{◌≡◌, ◌⊎◌, inl, inr, ◌≤◌, ◌<◌, ◌+◌, ◌-◌, ◌*◌, ◌/◌, ◌==◌, ℕ, zero, suc, List, [], ◌∷◌, ◌++◌, length, Bool, true, false, Option, Some, refl, sym, ap, subst, ◌∙◌, arith}
 use Rattle.std.specs.Prelude.{IfSome}
 use Rattle.std.proofs.Math.Nat.{div-add-mod, mod-lt, mul-suc}
 use Rattle.std.proofs.lemmas.Bool.Decides.{nat_tests}
 use Rattle.smp_cbor.specs.Shortest.{shortest}
-use Rattle.smp_model.specs.declared.device.AbstractDevice.{AbstractDevice}
-use Rattle.smp_model.specs.declared.device.Side.{Side}
-use Rattle.smp_model.specs.ImageGroup.{confirms, marks, mark_of as group_mark, runs, holds, lists_with, confirms_on, marks_on, sets_hash, sets_image, refuses_image}
 use Rattle.smp_model.specs.Laws.{OnImage}
-use Rattle.smp_model.specs.Response.{Response, settling}
-use Rattle.smp_model.specs.Sides.{SideStep}
 use Rattle.smp_model.specs.declared.device.Sizes.{Sizes}
 use Rattle.smp_model.specs.declared.upload.Ending.{Ending}
 use Rattle.smp_model.specs.declared.upload.Ending.TheVariants as endings
 use Rattle.smp_model.specs.Does.{does}
 use Rattle.smp_model.specs.Meaning.{meaning}
 use Rattle.smp_model.specs.Meant.{Meant}
-use Rattle.smp_model.specs.Said as said
-use Rattle.smp_model.specs.Said.{Said, is_error, reply_message, reply_value}
-use Rattle.smp_model.specs.Steps.{applied, side_at, settle}
+use Rattle.smp_model.specs.Said.{is_error, reply_value}
+use Rattle.smp_model.specs.Steps.{applied}
 use Rattle.smp_reply.specs.declared.answer.Asked.{Asked as Kind}
 use Rattle.smp_reply.specs.declared.answer.Asked.TheVariants as kinds
-use Rattle.smp_reply.specs.Held.{CanSay}
 use Rattle.smp_reply.specs.Told as told
 use Rattle.smp_reply.specs.Told.{Told}
-use Rattle.smp_jobs.specs.Clients.{Client, Turn, packet_of, begun, stops, asks_for, goes_on, with_answer, client_hears}
+use Rattle.smp_jobs.specs.Clients.{Client, packet_of, begun, goes_on, with_answer}
 use Rattle.smp_model.specs.Handled.{is_reset}
-use Rattle.smp_jobs.specs.Jobs.{UploadJob, Job, uploads, confirms as job_confirms, End, done, stalled, Next, asks, start_of, part_of, mark_of, at_end, at_offset, from_offset, is_outside, next, may_send, asked_of}
-use Rattle.smp_world.specs.Lines as lines
-use Rattle.smp_world.specs.Lines.{Did, Line}
-use Rattle.smp_world.specs.Runs.{begins, up, down, new, Mail, State, Moment, nth, Happens, Run as IsRun, UpComes, UpNamed, moves, unless_ended, comes_down, with_packet, number_of, state_at_end, first_state, client_begins}
+use Rattle.smp_jobs.specs.Jobs.{UploadJob, Job, uploads, Next, start_of, part_of, mark_of, at_end, at_offset, next, asked_of}
+use Rattle.smp_world.specs.Runs.{begins, up, down, new, State, Moment, Happens, Run as IsRun, state_at_end, first_state, client_begins}
 use Rattle.smp_world.specs.UploadJobs.{IsFront, upload_of, IsUpload}
 use Rattle.smp_world.specs.Deliveries.{IsAccepted, AreAccepted, delivered, enough_packets, HasRoom, IsDoneSoon}
 use Rattle.smp_world.specs.Below.{LawsBelow}
-use Rattle.smp_world.proofs.Deliveries.{Alone, asks_once, Heard, hears_once, reply_of, turn_of, turn_is}
+use Rattle.smp_world.proofs.DeliveredMail.{asks_once, Heard, hears_once, reply_of, turn_of, turn_is}
 use Rattle.smp_world.proofs.Durably.{means, side_alike}
-use Rattle.smp_world.proofs.Cases.{if_true, if_false}
 use Rattle.smp_world.proofs.Fronts.{front_short}
-use Rattle.smp_world.proofs.Jobs.{mark_means}
+use Rattle.smp_world.proofs.FairPackets.{mark_means}
 use Rattle.smp_world.proofs.OneJob.{request_means}
-use Rattle.smp_world.proofs.Progress.{WentOn, NoUploads, part_on, start_on}
+use Rattle.smp_world.proofs.PartsTaken.{WentOn, NoUploads, part_on, start_on}
 use Rattle.smp_world.proofs.TaggedRuns.{no_upload}
-use Rattle.smp_world.proofs.Uploaders.{IsPartOf, the_start, a_part}
-
--- Once it is over, it stays so.
-over_moves : (line : Did → Line) (s : State) (c : Client) (k : ℕ) (x : Option Client) (turn : Client → Turn) → (c.ended ≡ Some done) → nth (c ∷ []) k ≡ x
-    → (moves line s k x turn).state ≡ s
-over_moves line s c k None turn e is = refl
-over_moves line s c (suc zero) (Some x) turn e is = ap (λ (v : Option Client). (moves line s 1 v turn).state) (sym is) ∙ ap (λ (v : Option End). (unless_ended line s 1 v (turn c)).state) e
-over_moves line s c zero (Some x) turn e is = cc
-over_moves line s c (suc (suc k)) (Some x) turn e is = cc
-
-same_over : (j : UploadJob) (s t : State) → t.clients ≡ s.clients → t.packets ≡ s.packets → IsDoneSoon j s → IsDoneSoon j t
-same_over j s t cs ps o = record { client = o.client; clients = cs ∙ o.clients; ended = o.ended; packets = subst (λ (l : List Mail). length l ≤ enough_packets j) (sym ps) o.packets }
-
-over_up : (sizes : Sizes) (j : UploadJob) (is_up : Bool) (s : State) (n : ℕ) (p : Mail) (m : Moment) → UpComes sizes is_up s n p m → IsDoneSoon j s → IsDoneSoon j m.state
-over_up sizes j true s n p m h o = same_over j s m.state (ap (λ (x : Moment). x.state.clients) h.2) (ap (λ (x : Moment). x.state.packets) h.2) o
-over_up sizes j false s n p m h o = same_over j s m.state (ap (λ (x : Moment). x.state.clients) h) (ap (λ (x : Moment). x.state.packets) h) o
-
-over_named : (sizes : Sizes) (j : UploadJob) (s : State) (n : ℕ) (p : Option Mail) (m : Moment) → UpNamed sizes s n p m → IsDoneSoon j s → IsDoneSoon j m.state
-over_named sizes j s n None m h o = same_over j s m.state (ap (λ (x : Moment). x.state.clients) h) (ap (λ (x : Moment). x.state.packets) h) o
-over_named sizes j s n (Some p) m h o = over_up sizes j s.up s n p m h o
-
-over_down : (j : UploadJob) (s : State) (n : ℕ) (r : Option Mail) → IsDoneSoon j s → IsDoneSoon j (comes_down s n r).state
-over_down j s n None o = o
-over_down j s n (Some r) o =
-    let same = over_moves (λ did. lines.down n did) s o.client r.client (nth s.clients r.client) (λ c. client_hears c r.message) o.ended (ap (λ (cs : List Client). nth cs r.client) (sym o.clients)) in
-    subst (IsDoneSoon j) (sym same) o
-
-over_run : (sizes : Sizes) (j : UploadJob) (k : ℕ) (s : State) (moments : List Moment) → IsRun sizes s (delivered k) moments → IsDoneSoon j s → IsDoneSoon j (state_at_end s moments)
-over_run sizes j zero s [] r o = o
-over_run sizes j (suc k) s (a ∷ b ∷ moments) r o =
-    over_run sizes j k b.state moments r.1.1
-    (subst (λ (m : Moment). IsDoneSoon j m.state) (sym r.1.0)
-    (over_down j a.state (number_of a.state.replies new) (nth a.state.replies (number_of a.state.replies new))
-    (over_named sizes j s (number_of s.packets new) (nth s.packets (number_of s.packets new)) a r.0 o)))
-over_run sizes j zero s (m ∷ moments) r o = absurd r
-over_run sizes j (suc k) s [] r o = absurd r
-over_run sizes j (suc k) s (a ∷ []) r o = absurd r.1
-
--- One client goes on: its newest packet is that of a request.
-pub record Stage (j : UploadJob) (s : State) (c : Client) (q : ℕ) (r : Meant) : Type 0 where
-  pub alone : Alone s c
-  pub going : c.ended ≡ None
-  pub job : c.job ≡ uploads j
-  pub packet : c.request.packet ≡ packet_of q r
-  pub asked : c.request.asked ≡ asked_of r
-
-may_go : (j : UploadJob) (n : ℕ) → n ≤ enough_packets j → may_send (uploads j) n ≡ true
-may_go j n le = grind (arith, nat_tests)
-
-abbrev pub next_client : Client → Told → Meant → Client
-next_client c t r = record (asks_for (with_answer c t) r) { sent = c.sent + 1 }
-
-pub goes_turn : (j : UploadJob) (c : Client) (t : Told) (r : Meant) → c.job ≡ uploads j → c.sent ≤ enough_packets j
-    → goes_on (with_answer c t) (asks r) ≡ record { client = next_client c t r; packet = Some (next_client c t r).request.packet }
-goes_turn j c t r is le =
-    ap (λ (b : Bool). if b then record { client = next_client c t r; packet = Some (next_client c t r).request.packet } else stops (asks_for (with_answer c t) r) stalled)
-    (ap (λ (job : Job). may_send job c.sent) is ∙ may_go j c.sent le)
-
--- it asks for more
-next_stage : (sizes : Sizes) (j : UploadJob) (s u : State) (c : Client) (q : ℕ) (r m : Meant) (t : Told) → Stage j s c q r → c.sent ≤ enough_packets j → Heard sizes s c r u (turn_of sizes s c r)
-    → turn_of sizes s c r ≡ goes_on (with_answer c t) (asks m) → Stage j u (next_client c t m) ((c.request.packet.sequence + 1) % 256) m
-next_stage sizes j s u c q r m t st le h is =
-    let turn = is ∙ goes_turn j c t m st.job le in
-    let count = st.alone.count in
-    let packets : u.packets ≡ s.packets ++ record { client = 1; message = (next_client c t m).request.packet } ∷ [] = h.packets ∙ ap (λ (x : Turn). with_packet s.packets 1 x.packet) turn in
-    record {
-      alone = record {
-        up = h.up;
-        unarmed = h.unarmed;
-        clients = h.clients ∙ ap (λ (x : Turn). x.client ∷ []) turn;
-        before = s.packets;
-        packets = packets;
-        count = ap length packets ∙ length-append s.packets (record { client = 1; message = (next_client c t m).request.packet } ∷ []) ∙ ap (λ (n : ℕ). n + 1) count;
-      };
-      going = st.going;
-      job = st.job;
-      packet = refl;
-      asked = refl;
-    }
-
--- it is done
-last_stage : (sizes : Sizes) (j : UploadJob) (s u : State) (c : Client) (q : ℕ) (r : Meant) (t : Told) → Stage j s c q r → c.sent ≤ enough_packets j → Heard sizes s c r u (turn_of sizes s c r)
-    → turn_of sizes s c r ≡ stops (with_answer c t) done → IsDoneSoon j u
-last_stage sizes j s u c q r t st le h is =
-    let count = st.alone.count in
-    record {
-      client = record (with_answer c t) { ended = Some done };
-      clients = h.clients ∙ ap (λ (x : Turn). x.client ∷ []) is;
-      ended = refl;
-      packets = subst (λ (l : List Mail). length l ≤ enough_packets j) (sym (h.packets ∙ ap (λ (x : Turn). with_packet s.packets 1 x.packet) is)) (omega (arith, count, le));
-    }
-
-accepted_reply : (a : Moment) (r : Meant) (s : Said) → IfSome a.request (λ x. IsAccepted a.reply) → a.request ≡ Some r → a.reply ≡ Some s → (is_error s ≡ false) × CanSay s
-accepted_reply a r s ok req rep =
-    subst IsAccepted rep (subst (λ (o : Option Meant). IfSome o (λ x. IsAccepted a.reply)) req ok)
-
-pub told_offset : LawsBelow → (s : Said) (n : ℕ) (m : Option Bool) → s ≡ said.offset n m → CanSay s → told.told kinds.Offset (shortest (reply_value 1 s)) ≡ Some (told.offset n m)
-told_offset law s n m is can =
-    ap (λ (x : Said). told.told kinds.Offset (shortest (reply_value 1 x))) is ∙ law.replies 1 kinds.Offset (said.offset n m) (subst CanSay is can) tt
-
--- what follows an offset that is right
-pub from_right : (j : UploadJob) (n : ℕ) (m : Option Bool) → (m ≡ Some false → ⊥) → from_offset j n m ≡ at_offset j n
-from_right j n None no_ = refl
-from_right j n (Some true) no_ = refl
-from_right j n (Some false) no_ = absurd (no_ refl)
-
-pub at_full : (j : UploadJob) (n : ℕ) → n ≡ length j.file → at_offset j n ≡ at_end j j.ending
-at_full j n e = if_true (λ (x : Next). x ≡ at_end j j.ending) (n == length j.file) (at_end j j.ending) (asks (if is_outside n j.file then start_of j else part_of j n)) (eq-eqb n (length j.file) e) refl
-
-pub at_part : (j : UploadJob) (n : ℕ) → 0 < n → n < length j.file → at_offset j n ≡ asks (part_of j n)
-at_part j n some within =
-    if_false (λ (x : Next). x ≡ asks (part_of j n)) (n == length j.file) (at_end j j.ending) (asks (if is_outside n j.file then start_of j else part_of j n)) (grind (arith, nat_tests))
-    (if_false (λ (x : Meant). asks x ≡ asks (part_of j n)) (is_outside n j.file) (start_of j) (part_of j n) (grind (arith, nat_tests)) refl)
-
--- The replies to a mark: a list, or an error of the group.
-abbrev pub MarkShape : Said → Type 0
-MarkShape (said.images a b) = Unit {0}
-MarkShape (said.group_error g n) = Unit {0}
-MarkShape s = ⊥
-
-abbrev ShapeOf : Response → Type 0
-ShapeOf r = MarkShape r.reply
-
-listed_shape : (i : ℕ) (r : Result (List SideStep) ℕ) (d : AbstractDevice) → ShapeOf (lists_with i r d)
-listed_shape i (Ok steps) d = tt
-listed_shape i (Err n) d = tt
-
-confirms_shape : (i : ℕ) (b : Bool) (o : Option Side) (d : AbstractDevice) → ShapeOf (confirms_on i b o d)
-confirms_shape i b None d = tt
-confirms_shape i b (Some s) d = listed_shape i (confirms b s.confirmed) d
-
-marks_shape : (i : ℕ) (b : Bool) (o : Option Side) (d : AbstractDevice) → ShapeOf (marks_on i b o d)
-marks_shape i b None d = tt
-marks_shape i b (Some s) d = listed_shape i (marks (group_mark b) s.pending) d
-
-ways : (b : Bool) (x y : Response) → ShapeOf x → ShapeOf y → ShapeOf (if b then x else y)
-ways true x y p q = p
-ways false x y p q = q
-
-hash_shape : (hash : List ℕ) (b : Bool) (d : AbstractDevice) → ShapeOf (sets_hash hash b d)
-hash_shape hash b d =
-    ways (runs hash (side_at 0 d)) _ _ (confirms_shape 0 b (side_at 0 d) d) (ways (runs hash (side_at 1 d)) _ _ (confirms_shape 1 b (side_at 1 d) d)
-    (ways (holds hash (side_at 0 d)) _ _ (marks_shape 0 b (side_at 0 d) d) (ways (holds hash (side_at 1 d)) _ (refuses_image 8) (marks_shape 1 b (side_at 1 d) d) tt)))
-
-pub mark_shape : (sizes : Sizes) (j : UploadJob) (d : AbstractDevice) → 0 < length j.hash → MarkShape (does sizes d (mark_of j)).reply
-mark_shape sizes j d some = by_hash j.hash refl
-  where
-    by_hash : (h : List ℕ) → j.hash ≡ h → ShapeOf (sets_image d (Some h) (job_confirms j.ending))
-    by_hash [] e = let n = ap (λ (x : List ℕ). length x) e in absurd (omega (arith, n, some))
-    by_hash (x ∷ xs) e = ways (length (x ∷ xs) == 32) (settling d (sets_hash (x ∷ xs) (job_confirms j.ending))) (refuses_image 24) (hash_shape (x ∷ xs) (job_confirms j.ending) (settle d)) tt
-
--- an answer to a mark that was accepted
-pub told_done : LawsBelow → (s : Said) → MarkShape s → is_error s ≡ false → CanSay s → told.told kinds.Done (shortest (reply_value 1 s)) ≡ Some told.done
-told_done law (said.images x y) m e can = law.replies 1 kinds.Done (said.images x y) can tt
-told_done law (said.group_error group n) m e can = cc
-told_done law (said.smp_error n) m e can = absurd m
-told_done law said.empty m e can = absurd m
-told_done law (said.echo x) m e can = absurd m
-told_done law said.parameters m e can = absurd m
-told_done law (said.stat_group x y z) m e can = absurd m
-told_done law said.stat_list m e can = absurd m
-told_done law (said.offset o g) m e can = absurd m
-told_done law (said.setting v) m e can = absurd m
-told_done law (said.file_part x y z) m e can = absurd m
-told_done law (said.file_length l) m e can = absurd m
-told_done law (said.file_hash x y z) m e can = absurd m
-told_done law said.file_types m e can = absurd m
+use Rattle.smp_world.proofs.UploadClients.{IsPartOf, the_start, a_part}
+use Rattle.smp_world.proofs.LoneUploads.{Stage, last_stage, next_client, next_stage, over_run}
+use Rattle.smp_world.proofs.MarkAnswers.{accepted_reply, at_full, at_part, from_right, mark_shape, told_done, told_offset}
 
 -- the mark is the last packet
 mark_stage : LawsBelow → (sizes : Sizes) (j : UploadJob) (k : ℕ) (s : State) (c : Client) (q : ℕ) (moments : List Moment) → IsUpload j → Stage j s c q (mark_of j) → c.sent ≤ enough_packets j

@@ -1,9 +1,8 @@
 -- The mark of a job that is answered by no error: its file is pending, or it is an image that runs and is confirmed.
-use Rattle.std.proofs.Common.{◌≡◌, ◌⊎◌, inl, inr, ◌<◌, ◌≤◌, ◌==◌, ◌&&◌, not, if◌then◌else◌, ℕ, zero, suc, List, [], ◌∷◌, ◌++◌, length, Bool, true, false, Option, Some, None, Result, Ok, Err, refl, sym, ap, subst, ◌∙◌, arith}
+use Rattle.std.proofs.Common.{◌≡◌, ◌⊎◌, inl, inr, ◌<◌, ◌==◌, ◌&&◌, not, if◌then◌else◌, ℕ, List, [], ◌∷◌, length, Bool, true, false, Option, Some, None, Result, Ok, Err, refl, sym, ap, subst, ◌∙◌, arith}
 use Rattle.std.specs.Prelude.{IfSome, IsSome}
 use Rattle.std.proofs.lemmas.Slice.Eq.{bytes_eq-Decides}
 use Rattle.std.proofs.lemmas.Bool.Decides.{nat_tests}
-use Rattle.sha2.specs.Sha256.{sha256}
 use Rattle.smp_flash.specs.declared.arm.ArmKind.{ArmKind}
 use Rattle.smp_flash.specs.declared.arm.ArmKind.TheVariants as arms
 use Rattle.smp_model.specs.declared.device.AbstractDevice.{AbstractDevice}
@@ -11,7 +10,6 @@ use Rattle.smp_model.specs.declared.device.Side.{Side}
 use Rattle.smp_model.specs.declared.device.Sizes.{Sizes}
 use Rattle.smp_model.specs.declared.device.Upload.{Upload}
 use Rattle.smp_model.specs.declared.image.ImageInfo.{ImageInfo}
-use Rattle.smp_model.specs.declared.reply.SidePair.{SidePair}
 use Rattle.smp_model.specs.declared.upload.Announcement.{Announcement}
 use Rattle.smp_model.specs.declared.upload.Ending.{Ending}
 use Rattle.smp_model.specs.declared.upload.Ending.TheVariants as endings
@@ -27,18 +25,18 @@ use Rattle.smp_model.specs.Response.{Response, settling}
 use Rattle.smp_model.specs.Said as said
 use Rattle.smp_model.specs.Said.{Said}
 use Rattle.smp_model.specs.Sides.{SideStep, Choose, Append, Drop, MarkPending, Confirm, side_apply}
-use Rattle.smp_model.specs.Steps.{Step, OnSide, Save, Run, Part, side_at, with_side, apply, applied, on_side, settle, settle_steps}
+use Rattle.smp_model.specs.Steps.{Step, OnSide, Save, Run, Part, side_at, with_side, apply, applied, settle, settle_steps}
 use Rattle.smp_model.specs.Uploads.{differs, is_complete, uploaded_image}
 use Rattle.smp_world.specs.Below.{LawsBelow}
 use Rattle.smp_world.proofs.Sides.{applied_more, found_with, side_other, side_saved, side_changed, same_or_other}
 use Rattle.smp_world.specs.Goings.{Armed, durable, Went, Goes, IsToldBy, group_of}
 use Rattle.smp_jobs.specs.Jobs as jobs
 use Rattle.smp_jobs.specs.Jobs.{UploadJob, mark_of}
-use Rattle.smp_world.specs.UploadJobs.{IsFront, announcement_of, upload_of, RunsConfirmed, IsConfirmed, IsMarked}
+use Rattle.smp_world.specs.UploadJobs.{announcement_of, upload_of, RunsConfirmed, IsConfirmed, IsMarked}
 use Rattle.smp_world.proofs.Cases.{by_if}
 use Rattle.smp_world.proofs.Durably.{side_alike, means}
 use Rattle.smp_world.proofs.Fronts.{front_full}
-use Rattle.smp_world.proofs.Pending.{Lasts, LastsAtBoots, StaysThis, RequestsSame, stays_lasts}
+use Rattle.smp_world.proofs.Pending.{Lasts, StaysThis, RequestsSame, stays_lasts}
 use Rattle.smp_world.proofs.FairSteps.{Uploads, OfJob, OfSome, AllOfJobs, fair_applied, settling_fair}
 
 -- its file is pending, and good
@@ -65,10 +63,10 @@ runs_kept j Confirm s h = record { info = h.info; good = h.good; hash = h.hash; 
 confirmed_step : (j : UploadJob) (i : ℕ) (t : Step) (d : AbstractDevice) → OnImage i (RunsConfirmed j) d → OnImage i (RunsConfirmed j) (apply t d)
 confirmed_step j i (OnSide k t) d h = elim (same_or_other k i) [
   | inl e ↦ record {
-      side = side_apply t h.side;
-      found = subst (λ (n : ℕ). side_at i (with_side n (side_apply t) d) ≡ Some (side_apply t h.side)) (sym e) (found_with i (side_apply t) d h.side h.found);
-      fact = runs_kept j t h.side h.fact;
-    }
+    side = side_apply t h.side;
+    found = subst (λ (n : ℕ). side_at i (with_side n (side_apply t) d) ≡ Some (side_apply t h.side)) (sym e) (found_with i (side_apply t) d h.side h.found);
+    fact = runs_kept j t h.side h.fact;
+  }
   | inr n ↦ record { side = h.side; found = side_other k i (side_apply t) d n ∙ h.found; fact = h.fact }
 ]
 confirmed_step j i Save d h = record { side = h.side; found = side_saved i d ∙ h.found; fact = h.fact }

@@ -1,5 +1,5 @@
 -- What the words of a schedule say of jobs is what the laws on jobs ask for.
-use Rattle.std.proofs.Common.{◌≡◌, ◌≤◌, ◌<◌, ◌^◌, ◌&&◌, ℕ, List, [], ◌∷◌, length, Bool, true, false, Some, refl, sym, ap, subst, ◌∙◌, arith}
+use Rattle.std.proofs.Common.{◌≡◌, ◌≤◌, ◌<◌, ◌^◌, ◌&&◌, ℕ, List, [], ◌∷◌, length, true, Some, sym, ap, subst, ◌∙◌, arith}
 use Rattle.std.specs.Prelude.{nat_le}
 use Rattle.std.specs.List.{list_all}
 use Rattle.std.specs.Str.{is_utf8}
@@ -15,7 +15,7 @@ use Rattle.smp_model.specs.ImageFaults.{GoodImagesAreWithin}
 use Rattle.smp_schedule.specs.Lawful.{ArePairs, IsJob}
 use Rattle.smp_schedule.specs.Words.{is_plain}
 use Rattle.smp_schedule.specs.declared.job.JobWords.TheVariants as words
-use Rattle.smp_world.specs.Schedules.{IsUploadOf, IsJobOf}
+use Rattle.smp_world.specs.Schedules.{IsJobOf}
 use Rattle.smp_world.specs.SetJobs.{AreTexts}
 use Rattle.smp_world.specs.UploadJobs.{IsUpload, HasOwnHash}
 use Rattle.smp_world.proofs.Cases.{both}
@@ -33,9 +33,10 @@ the_info a b e = cc
 proper : GoodImagesAreWithin → (image : ℕ) (bytes : List ℕ) (info : ImageInfo) (chunk : ℕ) (ending : Ending) → good_image bytes ≡ Some info → image ≤ 1 → length bytes < 2 ^ 32
     → IsUpload (upload_job image bytes info.hash chunk ending) × HasOwnHash (upload_job image bytes info.hash chunk ending)
 proper within image bytes info chunk ending good le few =
-    let w = within bytes info good in
-    (record { some = omega (arith, w.least, w.tlvs, w.«end»); size = few; hash = w.hash; image = le },
-    λ other e. ap (λ (x : ImageInfo). x.hash) (the_info other info (sym e ∙ good)))
+    let w = within bytes info good in (
+      record { some = omega (arith, w.least, w.tlvs, w.«end»); size = few; hash = w.hash; image = le },
+      λ other e. ap (λ (x : ImageInfo). x.hash) (the_info other info (sym e ∙ good)),
+    )
 
 pub uploads_are_proper : GoodImagesAreWithin → (folder : Folder) (image : ℕ) (file : List ℕ) (chunk : ℕ) (ending : Ending) (j : UploadJob)
     → IsJob (words.Upload image file chunk ending) → IsJobOf folder (words.Upload image file chunk ending) (uploads j) → length j.file < 2 ^ 32 → IsUpload j × HasOwnHash j

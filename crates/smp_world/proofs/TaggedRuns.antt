@@ -1,8 +1,8 @@
 -- In every run without packets from nobody, each upload is a front of the file of a job for its image.
-use Rattle.std.proofs.Common.{◌≡◌, ◌<◌, inl, inr, ◌+◌, ℕ, zero, suc, List, [], ◌∷◌, ◌++◌, length, Bool, true, false, Option, Some, None, Result, Ok, Err, refl, sym, ap, subst, ◌∙◌}
-use Rattle.std.specs.Prelude.{All, Contains, option_map, get_or}
+use Rattle.std.proofs.Common.{◌≡◌, inl, inr, ◌+◌, ℕ, zero, suc, List, [], ◌∷◌, ◌++◌, length, Bool, true, false, Option, Some, None, Result, Ok, Err, refl, sym, ap, subst, ◌∙◌}
+use Rattle.std.specs.Prelude.{All, Contains, get_or}
 use Rattle.std.proofs.lemmas.Option.{slice_get_within, get_or_from_slice_get}
-use Rattle.std.proofs.lemmas.List.Elements.{All-get_or, All-push, All-weaker, All-set, All-nil, All-head, All-tail, Contains-get_or, Contains-append_left}
+use Rattle.std.proofs.lemmas.List.Elements.{All-get_or, All-push, All-set, All-nil, All-head, All-tail, Contains-get_or, Contains-append_left}
 use Rattle.sha2.specs.Sha256.{sha256}
 use Rattle.smp_header.specs.Message.{Message}
 use Rattle.smp_model.specs.declared.device.AbstractDevice.{AbstractDevice}
@@ -14,23 +14,22 @@ use Rattle.smp_model.specs.Does.{does}
 use Rattle.smp_model.specs.Laws.{Along}
 use Rattle.smp_model.specs.Meaning.{meaning}
 use Rattle.smp_model.specs.Meant.{Meant}
-use Rattle.smp_model.specs.Said.{Said, reply_message}
-use Rattle.smp_model.specs.Steps.{Step, Part, side_at, applied, settle_steps}
+use Rattle.smp_model.specs.Steps.{Step, Part, side_at, settle_steps}
 use Rattle.smp_world.specs.Below.{LawsBelow}
 use Rattle.smp_world.proofs.Sides.{along_front}
 use Rattle.smp_jobs.specs.Clients.{Client, Turn, begun, client_hears, client_waited}
-use Rattle.smp_world.specs.Goings.{Armed, durable, Went, Goes, Booted, Boots, after_boot}
+use Rattle.smp_world.specs.Goings.{Armed, Went, Goes}
 use Rattle.smp_world.specs.Comings.{Came, Comes, after_coming}
 use Rattle.smp_jobs.specs.Jobs.{UploadJob, Job, uploads, lists, sets, puts, gets, echoes, End}
 use Rattle.smp_world.specs.Lines as lines
 use Rattle.smp_world.specs.Lines.{Line, Did}
-use Rattle.smp_world.specs.Runs.{Event, begins, raw, up, down, quiet, arms, boot, Mail, State, Moment, nth, with_nth, number_of, Happens, Run as IsRun, UpComes, UpNamed, turned, unless_ended, moves, comes_down, client_begins, with_reply, with_packet, state_at_end, formatted_side, first_state}
-use Rattle.smp_world.specs.UploadJobs.{IsFront, announcement_of, IsAmong, IsNotRaw, Begun, AreTagged, IsTagged}
-use Rattle.smp_world.proofs.Durably.{side_alike, fails, means}
-use Rattle.smp_world.proofs.Jobs.{FairMeans, FairMessage, FairKind, begun_kind, kind_fair}
-use Rattle.smp_world.proofs.Pending.{LastsAtBoots, part_of_request, part_of_boot, nothing_of_error, booting_lasts, coming_after}
-use Rattle.smp_world.proofs.FairSteps.{Uploads, OfJob, OfSome, FairAt, AllOfJobs, IsFairRequest, fair_applied, settling_fair}
-use Rattle.smp_world.proofs.Turns.{Kind, IsOfKind, HasKind, SendsKind, TurnKind, hears_kind, waited_kind}
+use Rattle.smp_world.specs.Runs.{Event, begins, raw, up, down, quiet, arms, boot, Mail, State, Moment, nth, with_nth, number_of, Happens, Run as IsRun, UpComes, UpNamed, turned, unless_ended, moves, comes_down, client_begins, with_packet, state_at_end, formatted_side, first_state}
+use Rattle.smp_world.specs.UploadJobs.{IsFront, IsAmong, IsNotRaw, Begun, AreTagged, IsTagged}
+use Rattle.smp_world.proofs.Durably.{side_alike, means}
+use Rattle.smp_world.proofs.FairPackets.{FairMeans, FairMessage, FairKind, begun_kind, kind_fair}
+use Rattle.smp_world.proofs.Pending.{LastsAtBoots, nothing_of_error, booting_lasts, coming_after}
+use Rattle.smp_world.proofs.FairSteps.{Uploads, OfJob, OfSome, FairAt, AllOfJobs, fair_applied, settling_fair}
+use Rattle.smp_world.proofs.ClientKinds.{HasKind, SendsKind, TurnKind, hears_kind, waited_kind}
 
 pub nth_all : {X : Type 0} (P : X → Type 0) (xs : List X) (n : ℕ) (x : X) → All P xs → nth xs n ≡ Some x → P x
 nth_all P xs zero x all is = cc

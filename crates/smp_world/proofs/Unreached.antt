@@ -1,5 +1,5 @@
 -- A request that a trouble in a region cannot strike brings no trouble there nearer.
-use Rattle.std.proofs.Common.{◌≡◌, ◌∷◌, ◌∙◌, inl, inr, ◌||◌, ℕ, List, [], Bool, true, false, refl, sym, subst}
+use Rattle.std.proofs.Common.{◌≡◌, ◌∷◌, ◌∙◌, ◌||◌, List, [], Bool, true, false, refl, sym, subst}
 use Rattle.smp_flash.specs.declared.region.Region.{Region}
 use Rattle.smp_flash.specs.declared.region.Region.TheVariants as regions
 use Rattle.smp_model.specs.declared.device.AbstractDevice.{AbstractDevice}
@@ -8,7 +8,6 @@ use Rattle.smp_model.specs.Does.{does}
 use Rattle.smp_model.specs.FlashUse.{uses_images, uses_saved}
 use Rattle.smp_model.specs.Laws.{EachStep, IsOffSides, IsNoSave}
 use Rattle.smp_model.specs.Meant.{Meant}
-use Rattle.smp_model.specs.Sides.{SideStep}
 use Rattle.smp_model.specs.Steps.{Change, write_setting, delete_setting, load_settings, begin_file, append_file, aim_at, Step, OnSide, Save, Run, apply, applied, changed}
 use Rattle.smp_world.specs.Goings.{durable, reaches, IsCounted, AreCounted, BringNearer}
 use Rattle.smp_world.specs.Below.{StepsNeedFlash}

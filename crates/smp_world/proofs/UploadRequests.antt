@@ -1,5 +1,5 @@
 -- The requests for uploads by their cases, and the side that they leave.
-use Rattle.std.proofs.Common.{◌≡◌, ◌-◌, ◌==◌, not, ℕ, List, [], ◌∷◌, ◌++◌, length, Bool, true, false, Option, Some, None, refl, ap, ◌∙◌, arith, nat_lt}
+use Rattle.std.proofs.Common.{◌≡◌, ◌-◌, ◌==◌, not, ℕ, List, [], ◌∷◌, ◌++◌, length, false, Option, Some, None, refl, ap, ◌∙◌, arith, nat_lt}
 use Rattle.std.proofs.lemmas.Bool.Decides.{nat_tests}
 use Rattle.smp_model.specs.declared.device.AbstractDevice.{AbstractDevice}
 use Rattle.smp_model.specs.declared.device.Side.{Side}

@@ -15,7 +15,7 @@ use Rattle.smp_model.specs.Handled.{response_to}
 use Rattle.smp_model.specs.Meant.{Meant, name_of}
 use Rattle.smp_model.specs.Said.{Said, group_error}
 use Rattle.smp_model.specs.Sides.{SideStep, Choose, Append, Drop, MarkPending, Confirm}
-use Rattle.smp_model.specs.Steps.{Step, OnSide, Save, Run, side_at, apply, applied, settle_steps, start, counted}
+use Rattle.smp_model.specs.Steps.{Step, OnSide, Save, side_at, apply, applied, settle_steps, start, counted}
 use Rattle.smp_model.specs.Table.{table}
 
 -- what is armed, and the count of changes there that it still lets pass

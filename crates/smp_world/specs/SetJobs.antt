@@ -65,4 +65,3 @@ IsNoBoot boot = ⊥
 abbrev pub NothingStruck : List Moment → Type 0
 NothingStruck [] = Unit {0}
 NothingStruck (m ∷ moments) = (m.struck ≡ false) × NothingStruck moments
-

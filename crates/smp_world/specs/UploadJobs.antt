@@ -13,6 +13,7 @@ use Rattle.smp_model.specs.Laws.{OnImage}
 use Rattle.smp_model.specs.Steps.{side_at}
 use Rattle.smp_jobs.specs.Jobs.{UploadJob, uploads, lists, sets, puts, gets, echoes}
 use Rattle.smp_world.specs.Runs.{Event, begins, raw, up, down, quiet, arms, boot}
+
 -- some bytes are the front of others
 abbrev pub IsFront : List ℕ → List ℕ → Type 0
 IsFront front whole = (rest : List ℕ) × (whole ≡ front ++ rest)
@@ -107,4 +108,3 @@ pub record AreDifferent (J : UploadJob → Type 0) : Type 0 where
   pub hashes : (j : UploadJob) → J j → HasOwnHash j
   pub digests : (j k : UploadJob) → J j → J k → sha256 j.file ≡ sha256 k.file → j ≡ k
   pub apart : (j k : UploadJob) → J j → J k → j.hash ≡ k.hash → j ≡ k
-

@@ -1,4 +1,4 @@
-use Rattle.smp_world.proofs.SetDone.{done_sets_are_saved}
+use Rattle.smp_world.proofs.DoneSets.{done_sets_are_saved}
 use Rattle.smp_world.proofs.laws.done_sets_are_saved.Goals as goal
 
 pub returns : goal.returns

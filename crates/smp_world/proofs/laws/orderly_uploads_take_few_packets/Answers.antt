@@ -1,4 +1,4 @@
-use Rattle.smp_world.proofs.InOrder.{in_order}
+use Rattle.smp_world.proofs.OrderlyUploads.{in_order}
 use Rattle.smp_world.proofs.laws.orderly_uploads_take_few_packets.Goals as goal
 
 pub returns : goal.returns

@@ -22,7 +22,7 @@ use Rattle.smp_world.specs.Lines as lines
 use Rattle.smp_world.specs.Runs.{up, down, new, Mail, State, Moment, nth, Happens, moves, unless_ended, comes_down, with_packet, with_reply, with_nth}
 use Rattle.smp_client.specs.Requests.{Open, is_reply_to, answer_by, by_answer}
 use Rattle.smp_world.specs.Unarmed.{plain_boot_if, plain_coming, up_mail, up_named}
-use Rattle.smp_world.proofs.Alone.{event_one}
+use Rattle.smp_world.proofs.UnarmedRuns.{event_one}
 use Rattle.smp_world.proofs.Durably.{means, durable_counted}
 
 -- one client, whose packet is the newest

@@ -22,8 +22,8 @@ use Rattle.smp_jobs.specs.Jobs.{Next, asks, ends, nth_of_set}
 use Rattle.smp_world.specs.SetJobs.{LacksName, NamesDiffer, AreTexts, HasAll}
 use Rattle.smp_world.specs.Below.{LawsBelow, OnlySaves, StepsAreDue}
 use Rattle.smp_world.proofs.Cases.{by_if}
-use Rattle.smp_world.proofs.Spared.{Spares, running_same, else_same}
-use Rattle.smp_world.proofs.Written.{written_same, written_other}
+use Rattle.smp_world.proofs.SparingRequests.{Spares, running_same, else_same}
+use Rattle.smp_world.proofs.WrittenSettings.{written_same, written_other}
 
 -- the settings of a device
 pub record Memory : Type 0 where

@@ -1,5 +1,5 @@
 -- A region counts steps of its own image.
-use Rattle.std.proofs.Common.{◌≡◌, ℕ, Option, Some, None, sym, ap, ◌∙◌}
+use Rattle.std.proofs.Common.{◌≡◌, ℕ, Option, Some, sym, ap}
 use Rattle.smp_flash.specs.declared.region.Region.{Region}
 use Rattle.smp_flash.specs.declared.region.Region.TheVariants as regions
 use Rattle.smp_model.specs.declared.device.AbstractDevice.{AbstractDevice}

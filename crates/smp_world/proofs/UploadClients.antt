@@ -1,6 +1,6 @@
 -- The client of an upload job: what it sends, and what it knows once it is done. V is what the job knows of its upload where all
 -- of the file was accepted.
-use Rattle.std.proofs.Common.{◌≡◌, ◌⊎◌, inl, inr, ◌≤◌, ◌<◌, ◌+◌, ◌%◌, ◌==◌, ◌&&◌, if◌then◌else◌, ℕ, zero, suc, List, [], ◌∷◌, length, Bool, true, false, Option, Some, None, Result, Ok, Err, refl, sym, ap, subst, ◌∙◌, arith}
+use Rattle.std.proofs.Common.{◌≡◌, ◌≤◌, ◌<◌, ◌+◌, ◌%◌, ◌==◌, ◌&&◌, if◌then◌else◌, ℕ, List, ◌∷◌, length, Bool, true, false, Option, Some, None, Result, Ok, Err, refl, sym, ap, subst, ◌∙◌, arith}
 use Rattle.std.proofs.lemmas.Bool.Decides.{nat_tests}
 use Rattle.std.specs.Option.{option_and_then}
 use Rattle.smp_cbor.specs.declared.fault.Stop.{Stop}
@@ -19,7 +19,7 @@ use Rattle.smp_reply.specs.declared.refusal.Refusal.TheVariants as refusals
 use Rattle.smp_reply.specs.Told as told
 use Rattle.smp_reply.specs.Told.{Told, Entries, told_by, unless_refused, refusal, wanted, match_in, number_in, whole}
 use Rattle.smp_jobs.specs.Clients.{Client, Turn, packet_of, begun, stops, sends, asks_for, goes_on, with_answer, after_moved, client_hears, client_waited}
-use Rattle.smp_jobs.specs.Jobs.{UploadJob, Job, uploads, End, done, no_answer, stalled, Next, asks, ends, start_of, part_of, mark_of, at_end, at_offset, from_offset, is_outside, next_of_upload, next, first_of, may_send, asked_of}
+use Rattle.smp_jobs.specs.Jobs.{UploadJob, Job, uploads, End, done, no_answer, stalled, Next, asks, ends, start_of, part_of, mark_of, at_end, at_offset, from_offset, is_outside, next_of_upload, next, may_send, asked_of}
 use Rattle.smp_client.specs.Requests as requests
 use Rattle.smp_client.specs.Requests.{Open, opened, Moved, is_reply_to, answer_by, wait_ends, is_strange, by_answer, hears}
 use Rattle.smp_world.proofs.Cases.{by_if}

@@ -1,4 +1,4 @@
--- In every run where a set job is done, and nothing went wrong since it began, its settings are saved.
+-- Clients that leave the settings of a job alone, and the run before that job begins.
 use Rattle.std.proofs.Common.{◌≡◌, ◌≤◌, ◌+◌, ◌++◌, ℕ, zero, suc, List, [], ◌∷◌, length, Bool, true, false, Option, Some, None, refl, sym, subst, arith, length-append}
 use Rattle.std.specs.Prelude.{All}
 use Rattle.std.proofs.lemmas.List.Elements.{All-push, All-weaker, All-nil, All-head, All-tail}
@@ -17,8 +17,8 @@ use Rattle.smp_world.specs.Runs.{Event, begins, raw, up, down, quiet, arms, boot
 use Rattle.smp_world.specs.SetJobs.{AreApart, AreTexts, SparesNames}
 use Rattle.smp_world.proofs.TaggedRuns.{nth_all}
 use Rattle.smp_world.proofs.Numbered.{Each, each_set, each_push, length_with, nth_within}
-use Rattle.smp_world.proofs.Spared.{IsElse}
-use Rattle.smp_world.proofs.Turns.{AsksFor, IsOfKind, HasKind, SendsKind, TurnKind, hears_kind, waited_kind, put_kind, get_kind, one_kind, set_kind, upload_kind}
+use Rattle.smp_world.proofs.SparingRequests.{IsElse}
+use Rattle.smp_world.proofs.ClientKinds.{AsksFor, IsOfKind, HasKind, SendsKind, TurnKind, hears_kind, waited_kind, put_kind, get_kind, one_kind, set_kind, upload_kind}
 
 -- The jobs of others.
 other_set : (settings others : List Setting) → AreTexts others → AreApart settings others → (n : ℕ) → AsksFor (IsElse settings) (nth_of_set others n)

@@ -1,5 +1,5 @@
 -- Requests that are not about images: what they mean.
-use Rattle.std.proofs.Common.{◌++◌, ℕ, List, [], ◌∷◌, Option, Some, None, Result, Ok, Err, refl, sym, subst}
+use Rattle.std.proofs.Common.{ℕ, List, [], ◌∷◌, Option, Some, None, Result, Ok, Err}
 use Rattle.smp_cbor.specs.declared.fault.Stop.{Stop}
 use Rattle.smp_cbor.specs.Heads.{◌>>=◌}
 use Rattle.smp_cbor.specs.Values.{Value, map_of}

@@ -1,5 +1,5 @@
 -- In every run without packets from nobody, an upload job that is done tells the truth.
-use Rattle.std.proofs.Common.{◌≡◌, ◌⊎◌, inl, inr, ◌≤◌, ◌+◌, ℕ, zero, suc, List, [], ◌∷◌, ◌++◌, length, Bool, true, false, Option, Some, None, refl, sym, ap, subst, ◌∙◌, arith, length-append}
+use Rattle.std.proofs.Common.{◌≡◌, ◌⊎◌, inl, inr, ◌≤◌, ◌+◌, ℕ, List, [], ◌∷◌, ◌++◌, length, Bool, true, false, Option, Some, None, refl, sym, ap, subst, ◌∙◌, arith, length-append}
 use Rattle.std.specs.Prelude.{All, Contains, IfSome}
 use Rattle.std.proofs.lemmas.List.Elements.{All-push, All-weaker, All-nil, All-head, All-tail, All-contains}
 use Rattle.smp_header.specs.Message.{Message}
@@ -10,25 +10,25 @@ use Rattle.smp_model.specs.declared.upload.Ending.TheVariants as endings
 use Rattle.smp_model.specs.Laws.{Along}
 use Rattle.smp_model.specs.Meaning.{meaning}
 use Rattle.smp_model.specs.Said.{Said, reply_message}
-use Rattle.smp_model.specs.Steps.{Step, Part, applied, settle_steps}
+use Rattle.smp_model.specs.Steps.{Step, applied}
 use Rattle.smp_world.specs.Below.{LawsBelow}
 use Rattle.smp_world.proofs.Sides.{along_front}
 use Rattle.smp_jobs.specs.Clients.{Client, Turn, begun, client_hears, client_waited}
-use Rattle.smp_world.specs.Goings.{Armed, durable, after_going, Booted, Boots, after_boot}
-use Rattle.smp_world.specs.Comings.{Came, Comes, after_coming}
-use Rattle.smp_jobs.specs.Jobs.{UploadJob, Job, uploads, lists, sets, puts, gets, echoes, End, done, no_answer, refused, mismatch, stalled}
+use Rattle.smp_world.specs.Goings.{durable, after_boot}
+use Rattle.smp_world.specs.Comings.{after_coming}
+use Rattle.smp_jobs.specs.Jobs.{UploadJob, Job, uploads, End, done, no_answer, refused, mismatch, stalled}
 use Rattle.smp_world.specs.Lines as lines
 use Rattle.smp_world.specs.Lines.{Line, Did}
 use Rattle.smp_world.specs.Runs.{Event, begins, raw, up, down, quiet, arms, boot, Mail, State, Moment, nth, with_nth, number_of, Happens, Run as IsRun, UpComes, UpNamed, turned, unless_ended, moves, comes_down, client_begins, with_reply, with_packet, state_at_end, first_state}
-use Rattle.smp_world.specs.UploadJobs.{IsAmong, IsUpload, AreTagged}
-use Rattle.smp_world.proofs.Jobs.{FairMessage}
+use Rattle.smp_world.specs.UploadJobs.{IsAmong, AreTagged}
+use Rattle.smp_world.proofs.FairPackets.{FairMessage}
 use Rattle.smp_world.proofs.Marked.{Marked, IsOwn, marked_lasts}
 use Rattle.smp_world.proofs.Numbered.{nth_set, nth_push, nth_within, length_with, some_same}
-use Rattle.smp_world.proofs.Pending.{Lasts, LastsAtBoots, RequestsSame, booting_lasts, coming_after, going_lasts}
-use Rattle.smp_world.proofs.Replies.{PartsTrue, mail_true}
+use Rattle.smp_world.proofs.Pending.{LastsAtBoots, RequestsSame, booting_lasts, coming_after, going_lasts}
+use Rattle.smp_world.proofs.UploadReplies.{PartsTrue, mail_true}
 use Rattle.smp_world.proofs.FairSteps.{Uploads, FairAt, AllOfJobs, fair_applied, settling_fair}
 use Rattle.smp_world.proofs.TaggedRuns.{Inv, nth_all, set_all, jobs_at_boots, going_along, inv_event, first_inv}
-use Rattle.smp_world.proofs.Uploaders.{Knows, SentOk, IsTrue, DoneBy, EndTrue, Uploader, SendsOk, TurnOk, sent_asking, hears_ok, waited_ok, begun_upload, hears_job, wait_job}
+use Rattle.smp_world.proofs.UploadClients.{Knows, SentOk, IsTrue, DoneBy, EndTrue, Uploader, SendsOk, TurnOk, sent_asking, hears_ok, waited_ok, begun_upload, hears_job, wait_job}
 
 -- what a job knows is kept
 pub record IsKept (J : Uploads) (V : Knows) : Type 0 where
@@ -48,8 +48,10 @@ Both J V j d = AllOfJobs J d × V j d
 both_at_boots : (J : Uploads) (V : Knows) → IsKept J V → (j : UploadJob) → LastsAtBoots (Both J V j)
 both_at_boots J V k j = record {
   alike = λ d e h b. ((jobs_at_boots J).alike d e h b.0, k.alike j d e h b.1);
-  settling = λ d e b p. ((jobs_at_boots J).settling d e b.0 p,
-      subst (V j) (sym p.reached) (k.along j p.front d (along_front (FairAt J) p.front p.rest d (subst (Along (FairAt J) d) p.split (settling_fair J d))) b.0 b.1));
+  settling = λ d e b p. (
+    (jobs_at_boots J).settling d e b.0 p,
+    subst (V j) (sym p.reached) (k.along j p.front d (along_front (FairAt J) p.front p.rest d (subst (Along (FairAt J) d) p.split (settling_fair J d))) b.0 b.1),
+  );
 }
 
 -- what is so of the upload job of a client that is there
@@ -177,9 +179,11 @@ rest_up law same J V sound sizes true s n p out fair sent f h i =
     let d = s.device in
     let along = going_along J sizes s.armed d (meaning p.message) c.went fair h.1.goes f in
     let gone = fair_applied J c.went.taken d along f in
-    let truth : IfUploads s.clients p.client (λ j. IfSome c.went.reply (λ r. IsTrue V j (applied c.went.taken d) (reply_message p.message r))) =
-    (sent.0, λ x j at e. let is = (nth_all (Known J V d) s.clients p.client x i.known at j e).0 in
-    mail_true law J V sizes j s.armed d p.message c.went (sound.tagged.uploads j is) (sound.own j is) (sound.parts j is) (sent.1 x j at e) f h.1.goes) in
+    let truth : IfUploads s.clients p.client (λ j. IfSome c.went.reply (λ r. IsTrue V j (applied c.went.taken d) (reply_message p.message r))) = (
+      sent.0,
+      λ x j at e. let is = (nth_all (Known J V d) s.clients p.client x i.known at j e).0 in
+          mail_true law J V sizes j s.armed d p.message c.went (sound.tagged.uploads j is) (sound.own j is) (sound.parts j is) (sent.1 x j at e) f h.1.goes,
+    ) in
     let here = rest_moves J V s.clients s.packets s.replies d (applied c.went.taken d) (record {
       marked = λ j m. (steps_marked j m);
       knows = λ j v. sound.kept.along j c.went.taken d along f v;

@@ -17,7 +17,7 @@ use Rattle.smp_model.specs.Laws.{OnImage}
 use Rattle.smp_model.specs.Response.{Response, SideResponse, settling_side}
 use Rattle.smp_model.specs.Said as said
 use Rattle.smp_model.specs.Said.{Said, is_error}
-use Rattle.smp_model.specs.Sides.{SideStep, Choose, Append, Drop, side_apply, side_applied, side_settle, appended}
+use Rattle.smp_model.specs.Sides.{Choose, Append, Drop, side_apply, side_applied, side_settle, appended}
 use Rattle.smp_model.specs.Steps.{Step, side_at, applied}
 use Rattle.smp_model.specs.Uploads.{differs, is_spoiled, is_tagged_by, kept}
 use Rattle.smp_world.proofs.Sides.{the_same}

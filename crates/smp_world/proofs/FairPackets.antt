@@ -1,27 +1,24 @@
 -- What the jobs of a run ask for, where each upload job is one of some.
-use Rattle.std.proofs.Common.{◌≡◌, ◌≤◌, ◌<◌, ◌^◌, ℕ, zero, suc, List, [], ◌∷◌, length, take, drop, Option, Some, None, Result, Ok, Err, refl, sym, ap, subst, ◌∙◌, arith, length-append}
-use Rattle.std.specs.Prelude.{option_map}
+use Rattle.std.proofs.Common.{◌≡◌, ◌≤◌, ◌<◌, ◌^◌, ℕ, zero, suc, List, [], ◌∷◌, length, take, drop, Some, None, Result, Ok, Err, refl, sym, ap, subst, arith, length-append}
 use Rattle.std.proofs.lemmas.List.{take-append-drop}
 use Rattle.sha2.specs.Sha256.{sha256}
 use Rattle.sha2.proofs.Facts256.{length-sha256}
 use Rattle.smp_header.specs.Message.{Message}
 use Rattle.smp_model.specs.declared.setting.Setting.{Setting}
-use Rattle.smp_model.specs.Due.{IsUpload as IsUploadRequest}
 use Rattle.smp_model.specs.Meaning.{meaning}
 use Rattle.smp_model.specs.Meant as meant
 use Rattle.smp_model.specs.Meant.{Meant, fields_of}
-use Rattle.smp_model.specs.Table.{number}
 use Rattle.smp_reply.specs.Told.{Told}
 use Rattle.smp_request.specs.Held.{CanHoldEach}
-use Rattle.smp_jobs.specs.Clients.{Client, packet_of, begun}
+use Rattle.smp_jobs.specs.Clients.{packet_of, begun}
 use Rattle.smp_jobs.specs.Jobs.{UploadJob, Job, uploads, lists, sets, puts, gets, echoes, image_key, start_of, part_of, mark_of, next, first_of, nth_of_set, put_start, put_part}
 use Rattle.smp_world.specs.Runs.{begins}
 use Rattle.smp_world.specs.UploadJobs.{IsUpload, IsAmong, AreTagged}
 use Rattle.smp_world.specs.Below.{LawsBelow}
 use Rattle.smp_world.proofs.Fronts.{front_short}
-use Rattle.smp_world.proofs.Others.{IsOther, IfOther, other_means, not_upload}
+use Rattle.smp_world.proofs.OtherRequests.{IsOther, IfOther, other_means, not_upload}
 use Rattle.smp_world.proofs.FairSteps.{Uploads, IsFairRequest, start_request_fair, part_request_fair, other_request_fair}
-use Rattle.smp_world.proofs.Turns.{Kind, AsksFor, IsOfKind, HasKind, UploadKind, put_kind, get_kind, one_kind, set_kind, upload_kind}
+use Rattle.smp_world.proofs.ClientKinds.{Kind, AsksFor, IsOfKind, HasKind, UploadKind, put_kind, get_kind, one_kind, set_kind, upload_kind}
 
 -- What the packets of an upload job mean.
 short : (chunk : ℕ) (file : List ℕ) → length (take chunk file) ≤ length file

@@ -1,5 +1,5 @@
 -- What replies to the packets of an upload job tell.
-use Rattle.std.proofs.Common.{◌≡◌, inl, inr, ◌≤◌, ◌<◌, ◌^◌, ℕ, List, length, Bool, false, Option, Some, None, Result, Ok, Err, refl, sym, ap, subst, ◌∙◌, arith}
+use Rattle.std.proofs.Common.{◌≡◌, ℕ, length, Bool, false, Option, Some, None, Result, Ok, sym, ap, subst, ◌∙◌, arith}
 use Rattle.std.specs.Prelude.{IfSome}
 use Rattle.smp_cbor.specs.Shortest.{shortest}
 use Rattle.smp_header.specs.Message.{Message}
@@ -16,13 +16,13 @@ use Rattle.smp_reply.specs.Told as told
 use Rattle.smp_reply.specs.Told.{Told}
 use Rattle.smp_jobs.specs.Clients.{packet_of}
 use Rattle.smp_world.specs.Goings.{Armed, Went, Goes}
-use Rattle.smp_jobs.specs.Jobs.{UploadJob, start_of, part_of, mark_of}
+use Rattle.smp_jobs.specs.Jobs.{UploadJob, mark_of}
 use Rattle.smp_world.specs.UploadJobs.{IsUpload}
 use Rattle.smp_world.specs.Below.{LawsBelow}
-use Rattle.smp_world.proofs.Jobs.{mark_means}
+use Rattle.smp_world.proofs.FairPackets.{mark_means}
 use Rattle.smp_world.proofs.Marked.{Marked, MarkSaid, IsRefusal, IsOwn, mark_goes}
 use Rattle.smp_world.proofs.FairSteps.{Uploads, AllOfJobs}
-use Rattle.smp_world.proofs.Uploaders.{Knows, IsPartOf, the_start, a_part, SentOk, a_start_or_part, a_mark, IsTrue}
+use Rattle.smp_world.proofs.UploadClients.{Knows, IsPartOf, the_start, a_part, SentOk, a_start_or_part, a_mark, IsTrue}
 
 abbrev some_told : Told → Option Told
 some_told t = Some t
