@@ -24,6 +24,7 @@ use Rattle.smp_client.specs.Requests.{Open, is_reply_to, answer_by, by_answer}
 use Rattle.smp_world.specs.Unarmed.{plain_boot_if, plain_coming, up_mail, up_named}
 use Rattle.smp_world.proofs.UnarmedRuns.{event_one}
 use Rattle.smp_world.proofs.Durably.{means, durable_counted}
+use Rattle.smp_world.proofs.Numbered.{nth_behind}
 
 -- one client, whose packet is the newest
 pub record Alone (s : State) (c : Client) : Type 0 where
@@ -34,16 +35,8 @@ pub record Alone (s : State) (c : Client) : Type 0 where
   pub packets : s.packets ≡ before ++ record { client = 1; message = c.request.packet } ∷ []
   pub count : length s.packets ≡ c.sent
 
-get_last : {X : Type 0} (xs : List X) (x : X) → slice_get (xs ++ x ∷ []) (length xs) ≡ Some x
-get_last [] x = refl
-get_last (y ∷ xs) x = get_last xs x
-
-nth_more : {X : Type 0} (xs : List X) (x : X) (n : ℕ) → n ≡ suc (length xs) → nth (xs ++ x ∷ []) n ≡ Some x
-nth_more xs x zero e = absurd (omega (arith, e))
-nth_more xs x (suc n) e = let same : n ≡ length xs = omega (arith, e) in ap (slice_get (xs ++ x ∷ [])) same ∙ get_last xs x
-
 nth_last : {X : Type 0} (xs ys : List X) (x : X) → ys ≡ xs ++ x ∷ [] → nth ys (length ys) ≡ Some x
-nth_last xs ys x e = ap (λ l. nth l (length l)) e ∙ nth_more xs x (length (xs ++ x ∷ [])) (omega (arith, length-append xs (x ∷ [])))
+nth_last xs ys x e = ap (λ l. nth l (length l)) e ∙ nth_behind xs x [] (length (xs ++ x ∷ [])) (omega (arith, length-append xs (x ∷ [])))
 
 abbrev plain : Sizes → State → Meant → Came
 plain sizes s r = plain_coming sizes s.device (means r)

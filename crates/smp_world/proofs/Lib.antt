@@ -51,3 +51,6 @@ mod OrderlyAnswers
 mod OrderlyUploads
 mod ScheduleEvents
 mod ScheduleJobs
+mod KeptNumbers
+mod NamedMail
+mod Uptime

@@ -8,14 +8,14 @@ use Rattle.smp_model.specs.declared.device.Side.{Side}
 use Rattle.smp_model.specs.Sides.{side_apply}
 use Rattle.smp_model.specs.declared.device.Sizes.{Sizes}
 use Rattle.smp_model.specs.declared.setting.Setting.{Setting}
-use Rattle.smp_model.specs.Laws.{EachStep}
+use Rattle.smp_model.specs.Laws.{EachStep, IsNoSave}
 use Rattle.smp_model.specs.Meaning.{meaning}
 use Rattle.smp_model.specs.Meant.{Meant, save}
 use Rattle.smp_model.specs.Said.{Said, empty}
 use Rattle.smp_model.specs.Steps.{Change, write_setting, delete_setting, load_settings, begin_file, append_file, aim_at, Step, OnSide, Save, Run, with_side, apply, applied, changed}
 use Rattle.smp_world.specs.Goings.{Armed, Durable, Went, Goes, IsToldBy, after_going, Booted}
 use Rattle.smp_world.specs.Comings.{Came, Comes, after_coming, steps_of_boot, BootsAfter}
-use Rattle.smp_world.specs.Laws.{IsNoSave, NothingSaved, IsSave}
+use Rattle.smp_world.specs.Laws.{NothingSaved, IsSave}
 use Rattle.smp_world.specs.Runs.{Event, State, Moment, Run as IsRun, state_at_end}
 use Rattle.smp_world.proofs.Deeds.{Says, Holds, each_deed}
 use Rattle.smp_world.proofs.Durably.{boot_durable, came_durable, means}

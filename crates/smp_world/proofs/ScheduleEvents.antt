@@ -1,7 +1,7 @@
 -- The events of a lawful schedule: each client's line has the number of its job.
 use Rattle.std.proofs.Common.{◌≡◌, ℕ, zero, suc, ◌+◌, List, [], ◌∷◌, ◌++◌, length, Some, refl, ap, subst, ◌∙◌, arith, length-append}
 use Rattle.std.proofs.lemmas.List.{append_assoc}
-use Rattle.std.specs.Prelude.{slice_get, option_map}
+use Rattle.std.specs.Prelude.{option_map}
 use Rattle.smp_edge.specs.Files.{Folder}
 use Rattle.smp_jobs.specs.Jobs.{Job}
 use Rattle.smp_schedule.specs.declared.event.Event.{Event as Said}
@@ -9,16 +9,9 @@ use Rattle.smp_schedule.specs.declared.event.Event.TheVariants as said
 use Rattle.smp_schedule.specs.declared.job.JobWords.{JobWords}
 use Rattle.smp_schedule.specs.Lawful.{AreEvents, IsLawful}
 use Rattle.smp_schedule.specs.Schedules.{Schedule}
-use Rattle.smp_world.specs.Runs.{Event, begins, nth}
+use Rattle.smp_world.specs.Runs.{Event, begins}
 use Rattle.smp_world.specs.Schedules.{AreJobsOf, event_of, AreEventsOf}
-
-get_behind : {X : Type 0} (front : List X) (x : X) (rest : List X) → slice_get (front ++ x ∷ rest) (length front) ≡ Some x
-get_behind [] x rest = refl
-get_behind (y ∷ front) x rest = get_behind front x rest
-
-nth_behind : {X : Type 0} (front : List X) (x : X) (rest : List X) (k : ℕ) → k ≡ length front + 1 → nth (front ++ x ∷ rest) k ≡ Some x
-nth_behind front x rest zero e = absurd (omega (arith, e))
-nth_behind front x rest (suc k) e = let same : k ≡ length front = omega (arith, e) in ap (slice_get (front ++ x ∷ rest)) same ∙ get_behind front x rest
+use Rattle.smp_world.proofs.Numbered.{nth_behind}
 
 -- the events of these lines, among these jobs
 abbrev Found : List Job → List Said → Type 0

@@ -26,8 +26,8 @@ ghost use Rattle.smp_schedule.specs.declared.job.JobWords.TheVariants.{Set as Se
 ghost use Rattle.smp_world.specs.Below.{LawsBelow};
 ghost use Rattle.smp_world.specs.Deliveries.{AreAccepted, AreOrderly, GoesWell, HasRoom, IsDoneSoon, NoUpload, delivered, enough_packets};
 ghost use Rattle.smp_world.specs.Goings.{IsCounted, armed_by, durable};
-ghost use Rattle.smp_world.specs.Laws.{IsFrontOf, IsOfChanges, IsSave, NoArms, NothingSaved, Passed, TellsTrouble, acknowledged_after, image_in};
-ghost use Rattle.smp_world.specs.Runs.{Event, Happens, Moment, Run, State, arms, begins, first_state, nth, raw, state_at_end};
+ghost use Rattle.smp_world.specs.Laws.{EachLine, IsFrontOf, IsOfChanges, IsSave, KeepsNumbers, NamesMail, NoArms, NothingSaved, Passed, TellsTrouble, acknowledged_after, image_in};
+ghost use Rattle.smp_world.specs.Runs.{Event, Happens, Moment, Run, State, arms, begins, boot, first_state, nth, raw, state_at_end};
 ghost use Rattle.smp_world.specs.Schedules.{AreEventsOf, AreJobsOf, IsJobOf};
 ghost use Rattle.smp_world.specs.SetJobs.{AreTexts, HasAll, IsNoBoot, IsSetJob, NothingStruck, SparesNames};
 ghost use Rattle.smp_world.specs.Telling.{armed_in};
@@ -69,6 +69,29 @@ pub fn moments_are_the_devices()
     ensures moves { (sizes : FlashSizes) (s : State) (e : Event) (m : Moment)
         → Happens sizes s e m
         → durable m.state.device ≡ durable (applied m.taken s.device) }
+{}
+
+/// Packets, replies and clients keep their numbers, a client keeps its job, and one that has ended stays as it is.
+pub fn numbers_are_kept()
+    ensures { (sizes : FlashSizes) (s : State) (e : Event) (m : Moment)
+        → Happens sizes s e m → KeepsNumbers s m.state }
+{}
+
+/// The numbers in lines are those by which later events name what they tell of: a packet that was sent is the newest then, and a
+/// reply is the newest then and has the bytes of its line.
+pub fn lines_name_their_mail()
+    ensures { (sizes : FlashSizes) (s : State) (e : Event) (m : Moment)
+        → Happens sizes s e m → EachLine (NamesMail m.state) m.lines }
+{}
+
+/// A device that is down stays as it is until a boot. One that is up goes down only where something struck: at a cut, or at
+/// a boot that failed.
+pub fn a_device_that_is_down_waits_for_a_boot()
+    ensures waits { (sizes : FlashSizes) (s : State) (e : Event) (m : Moment)
+        → s.up ≡ false → e ≢ boot → Happens sizes s e m
+        → (m.state.up ≡ false) × (m.state.device ≡ s.device) }
+    ensures struck { (sizes : FlashSizes) (s : State) (e : Event) (m : Moment)
+        → s.up ≡ true → Happens sizes s e m → m.state.up ≡ false → m.struck ≡ true }
 {}
 
 /// What was acknowledged of the upload of an image is held by it, at each place of a run.

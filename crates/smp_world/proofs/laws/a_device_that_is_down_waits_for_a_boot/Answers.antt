@@ -1,0 +1,8 @@
+use Rattle.smp_world.proofs.Uptime.{down_stays, only_strikes}
+use Rattle.smp_world.proofs.laws.a_device_that_is_down_waits_for_a_boot.Goals as goal
+
+pub returns-clause-waits : goal.returns-clause-waits
+returns-clause-waits c = down_stays
+
+pub returns-clause-struck : goal.returns-clause-struck
+returns-clause-struck c = only_strikes
