@@ -54,3 +54,4 @@ mod ScheduleJobs
 mod KeptNumbers
 mod NamedMail
 mod Uptime
+mod FirstStates

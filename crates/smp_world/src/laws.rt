@@ -16,7 +16,7 @@ ghost use Rattle.smp_model.specs.Handled.{handled};
 ghost use Rattle.smp_model.specs.Laws.{EachSide, OnImage, PendingIsGood, SameUpload};
 ghost use Rattle.smp_model.specs.Meant.{Meant, reset};
 ghost use Rattle.smp_model.specs.Sides.{SideStep};
-ghost use Rattle.smp_model.specs.Steps.{applied, OnSide, side_at};
+ghost use Rattle.smp_model.specs.Steps.{OnSide, applied, side_at, start};
 ghost use Rattle.smp_jobs.specs.Clients.{Client};
 ghost use Rattle.smp_jobs.specs.Jobs.{Job as ClientJob, UploadJob, done, sets, uploads};
 ghost use Rattle.smp_edge.specs.Files.{Folder};
@@ -27,7 +27,7 @@ ghost use Rattle.smp_world.specs.Below.{LawsBelow};
 ghost use Rattle.smp_world.specs.Deliveries.{AreAccepted, AreOrderly, GoesWell, HasRoom, IsDoneSoon, NoUpload, delivered, enough_packets};
 ghost use Rattle.smp_world.specs.Goings.{IsCounted, armed_by, durable};
 ghost use Rattle.smp_world.specs.Laws.{EachLine, IsFrontOf, IsOfChanges, IsSave, KeepsNumbers, NamesMail, NoArms, NothingSaved, Passed, TellsTrouble, acknowledged_after, image_in};
-ghost use Rattle.smp_world.specs.Runs.{Event, Happens, Moment, Run, State, arms, begins, boot, first_state, nth, raw, state_at_end};
+ghost use Rattle.smp_world.specs.Runs.{Event, Happens, Moment, Run, State, arms, begins, boot, first_state, formatted, nth, raw, state_at_end};
 ghost use Rattle.smp_world.specs.Schedules.{AreEventsOf, AreJobsOf, IsJobOf};
 ghost use Rattle.smp_world.specs.SetJobs.{AreTexts, HasAll, IsNoBoot, IsSetJob, NothingStruck, SparesNames};
 ghost use Rattle.smp_world.specs.Telling.{armed_in};
@@ -52,6 +52,16 @@ fn laws_below()
     good_uploads_have_images();
     requests_keep_to_their_part();
 }
+
+/// A run begins with a device that has started, with nothing pending and nothing acknowledged, as the laws below ask for.
+pub fn runs_begin_with_nothing()
+    ensures started { (sizes : FlashSizes) (image : List ℕ) (second : Option (List ℕ))
+        → start (formatted sizes image second) ≡ formatted sizes image second }
+    ensures pending { (sizes : FlashSizes) (image : List ℕ) (second : Option (List ℕ))
+        → EachSide PendingIsGood (first_state sizes image second).device }
+    ensures acknowledged { (sizes : FlashSizes) (image : List ℕ) (second : Option (List ℕ)) (n : ℕ)
+        → CoversOn n (first_state sizes image second).device 0 }
+{}
 
 /// What comes of a request is the abstract device's. Where no trouble struck, so is the reply; where one did, some first steps
 /// were taken, and the reply is an error of the flash or there is none. What is durable moves by the steps that were taken, at
