@@ -1,6 +1,6 @@
 -- Packets, replies and clients keep their numbers, and a client that has ended stays as it is.
-use Rattle.std.proofs.Common.{◌≡◌, inl, inr, ℕ, zero, suc, ◌+◌, ◌++◌, List, [], ◌∷◌, length, Bool, true, false, Option, Some, None, refl, sym, ap, subst, ◌∙◌, arith}
-use Rattle.std.specs.Prelude.{slice_get, slice_set, IsSome, IsSomeAnd}
+use Rattle.std.proofs.Common.{◌≡◌, inl, inr, ℕ, ◌++◌, List, [], ◌∷◌, Bool, true, false, Option, Some, None, refl, sym, ap, subst, ◌∙◌}
+use Rattle.std.specs.Prelude.{IsSome, IsSomeAnd}
 use Rattle.smp_header.specs.Message.{Message, packet}
 use Rattle.smp_jobs.specs.Clients.{Client, Turn, begun, client_hears, client_waited}
 use Rattle.smp_jobs.specs.Jobs.{Job, End}
@@ -10,7 +10,7 @@ use Rattle.smp_model.specs.Said.{Said, reply_message}
 use Rattle.smp_world.specs.Laws.{IsLater, KeepsNumbers}
 use Rattle.smp_world.specs.Lines as lines
 use Rattle.smp_world.specs.Lines.{Line, Did}
-use Rattle.smp_world.specs.Runs.{Event, begins, raw, up, down, quiet, arms, boot, Mail, State, Moment, nth, with_nth, number_of, Happens, RawMessage, RawPacket, RawComes, UpComes, UpNamed, BootComes, turned, unless_ended, moves, comes_down, is_quiet, client_begins, with_packet, with_reply}
+use Rattle.smp_world.specs.Runs.{Event, begins, raw, up, down, quiet, arms, boot, Mail, State, Moment, nth, with_nth, number_of, Happens, RawMessage, RawPacket, RawComes, UpComes, UpNamed, turned, unless_ended, moves, comes_down, client_begins, with_packet, with_reply}
 use Rattle.smp_world.proofs.Numbered.{nth_more, nth_with}
 use Rattle.smp_world.proofs.UploadClients.{hears_job, wait_job}
 

@@ -53,5 +53,6 @@ mod ScheduleEvents
 mod ScheduleJobs
 mod KeptNumbers
 mod NamedMail
-mod Uptime
+mod Downtime
+mod Silence
 mod FirstStates

@@ -9,7 +9,6 @@ use Rattle.smp_model.specs.declared.device.Sizes.{Sizes}
 use Rattle.smp_model.specs.Handled.{is_request}
 use Rattle.smp_model.specs.Packets.{packet_bytes}
 use Rattle.smp_model.specs.Said.{Said, reply_message}
-use Rattle.smp_world.specs.Comings.{Came}
 use Rattle.smp_world.specs.Goings as goings
 use Rattle.smp_world.specs.Goings.{Booted, BootEnd}
 use Rattle.smp_world.specs.Laws.{IsOfClient, HasBytes, NamesSent, NamesSentBy, NamesMail, EachLine}
@@ -30,9 +29,10 @@ one_longer mails m = omega (arith, length-append mails (m ∷ []))
 
 -- what a client did
 did_named : (ps : List Mail) (k : ℕ) (o : Option Message) (e : Option End) (s : State) → s.packets ≡ with_packet ps k o → NamesSent s k (did_by (length ps + 1) o e)
-did_named ps k (Some m) e s is =
-    (subst (λ (l : List Mail). IsOfClient l (length ps + 1) k) (sym is) (newest_is (λ x. x.client ≡ k) ps (record { client = k; message = m }) refl),
-    subst (λ (l : List Mail). length ps + 1 ≡ length l) (sym is) (one_longer ps (record { client = k; message = m })))
+did_named ps k (Some m) e s is = (
+  subst (λ (l : List Mail). IsOfClient l (length ps + 1) k) (sym is) (newest_is (λ x. x.client ≡ k) ps (record { client = k; message = m }) refl),
+  subst (λ (l : List Mail). length ps + 1 ≡ length l) (sym is) (one_longer ps (record { client = k; message = m })),
+)
 did_named ps k None None s is = tt
 did_named ps k None (Some e) s is = tt
 
@@ -84,10 +84,11 @@ raw_named sizes false s bytes out h = as_named out _ h (tt, tt)
 
 fate_named : (s t : State) (n : ℕ) (p : Mail) (reply : Option Said) → t.replies ≡ with_reply s.replies p reply → NamesMail t (lines.up n (up_fate s p.message reply))
 fate_named s t n p None is = tt
-fate_named s t n p (Some said) is =
-    (subst (λ (l : List Mail). HasBytes l (length s.replies + 1) (reply_to p.message said)) (sym is)
-    (newest_is (λ x. packet_bytes x.message ≡ reply_to p.message said) s.replies (record { client = p.client; message = reply_message p.message said }) refl),
-    subst (λ (l : List Mail). length s.replies + 1 ≡ length l) (sym is) (one_longer s.replies (record { client = p.client; message = reply_message p.message said })))
+fate_named s t n p (Some said) is = (
+  subst (λ (l : List Mail). HasBytes l (length s.replies + 1) (reply_to p.message said)) (sym is)
+      (newest_is (λ x. packet_bytes x.message ≡ reply_to p.message said) s.replies (record { client = p.client; message = reply_message p.message said }) refl),
+  subst (λ (l : List Mail). length s.replies + 1 ≡ length l) (sym is) (one_longer s.replies (record { client = p.client; message = reply_message p.message said })),
+)
 
 up_mail_named : (sizes : Sizes) (b : Bool) (s : State) (n : ℕ) (p : Mail) (out : Moment) → UpComes sizes b s n p out → Names out
 up_mail_named sizes true s n p out h = as_named out _ h.2 (fate_named s (state_after_up s p h.0) n p h.0.went.reply refl, boots_named (state_after_up s p h.0) h.0.boot (state_after_up s p h.0).device)

@@ -94,14 +94,16 @@ pub fn lines_name_their_mail()
         → Happens sizes s e m → EachLine (NamesMail m.state) m.lines }
 {}
 
-/// A device that is down stays as it is until a boot. One that is up goes down only where something struck: at a cut, or at
-/// a boot that failed.
+/// A device that is down stays as it is until a boot. One that is up goes down only where something struck, and where a request
+/// got no answer, since power was cut.
 pub fn a_device_that_is_down_waits_for_a_boot()
     ensures waits { (sizes : FlashSizes) (s : State) (e : Event) (m : Moment)
         → s.up ≡ false → e ≢ boot → Happens sizes s e m
         → (m.state.up ≡ false) × (m.state.device ≡ s.device) }
     ensures struck { (sizes : FlashSizes) (s : State) (e : Event) (m : Moment)
         → s.up ≡ true → Happens sizes s e m → m.state.up ≡ false → m.struck ≡ true }
+    ensures cut { (sizes : FlashSizes) (s : State) (e : Event) (m : Moment) (r : Meant)
+        → Happens sizes s e m → m.request ≡ Some r → m.reply ≡ None → m.state.up ≡ false }
 {}
 
 /// What was acknowledged of the upload of an image is held by it, at each place of a run.

@@ -1,6 +1,6 @@
 -- A device that is down stays as it is until a boot, and it goes down only where something struck.
-use Rattle.std.proofs.Common.{◌≡◌, ◌≢◌, inl, inr, ◌||◌, not, ℕ, List, Bool, true, false, Option, Some, None, Result, refl, sym, ap, subst, ◌∙◌}
-use Rattle.std.specs.Prelude.{is_some, IsTrue}
+use Rattle.std.proofs.Common.{◌≡◌, ◌≢◌, inl, inr, ◌||◌, not, ℕ, List, Bool, true, false, Option, Some, None, Result, refl, sym, subst, ◌∙◌}
+use Rattle.std.specs.Prelude.{is_some}
 use Rattle.smp_header.specs.Message.{Message, packet}
 use Rattle.smp_jobs.specs.Clients.{Client, Turn, client_hears, client_waited}
 use Rattle.smp_jobs.specs.Jobs.{End}
