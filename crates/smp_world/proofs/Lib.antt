@@ -56,3 +56,5 @@ mod NamedMail
 mod Downtime
 mod Silence
 mod FirstStates
+mod Consistency
+mod ToldReplays

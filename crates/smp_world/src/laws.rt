@@ -1,5 +1,5 @@
 //! What is so of every run. The calls do nothing: each stands for a law.
-ghost use Rattle.std.specs.Prelude.{◌≡◌, ◌≢◌, ◌≤◌, ◌<◌, ◌+◌, ◌∷◌, ◌++◌, ℕ, List, length, ◌^◌, All, Contains, Option, Some, None, IsSome, option_map, true, false};
+ghost use Rattle.std.specs.Prelude.{◌≡◌, ◌≢◌, ◌≤◌, ◌<◌, ◌+◌, ◌∷◌, ◌++◌, ℕ, List, length, ◌^◌, All, Contains, Option, Some, None, IfSome, IsSome, option_map, true, false};
 ghost use Rattle.smp_flash.specs.Arm.{aim_of, patience_of, troubles_of};
 ghost use Rattle.smp_flash.specs.declared.arm.Arm.{Arm};
 ghost use Rattle.smp_flash.specs.declared.region.Region.{Region};
@@ -11,6 +11,7 @@ ghost use Rattle.smp_model.specs.declared.upload.Ending.{Ending as EndingOf};
 ghost use Rattle.smp_model.specs.declared.upload.Ending.TheVariants.{Only};
 ghost use Rattle.smp_model.specs.declared.upload.Mark.{Mark as Marked};
 ghost use Rattle.smp_model.specs.Acknowledged.{CoversOn};
+ghost use Rattle.smp_model.specs.Consistent.{IsConsistent};
 ghost use Rattle.smp_model.specs.Does.{does};
 ghost use Rattle.smp_model.specs.Handled.{handled};
 ghost use Rattle.smp_model.specs.Laws.{EachSide, OnImage, PendingIsGood, SameUpload};
@@ -26,9 +27,11 @@ ghost use Rattle.smp_schedule.specs.declared.job.JobWords.TheVariants.{Set as Se
 ghost use Rattle.smp_world.specs.Below.{LawsBelow};
 ghost use Rattle.smp_world.specs.Deliveries.{AreAccepted, AreOrderly, GoesWell, HasRoom, IsDoneSoon, NoUpload, delivered, enough_packets};
 ghost use Rattle.smp_world.specs.Goings.{IsCounted, armed_by, durable};
-ghost use Rattle.smp_world.specs.Laws.{EachLine, IsFrontOf, IsOfChanges, IsSave, KeepsNumbers, NamesMail, NoArms, NothingSaved, Passed, TellsTrouble, acknowledged_after, image_in};
+ghost use Rattle.smp_world.specs.Laws.{CanFormat, EachLine, IsFrontOf, IsOfChanges, IsSave, KeepsNumbers, NamesMail, NoArms, NothingSaved, Passed, TellsTrouble, acknowledged_after, image_in};
 ghost use Rattle.smp_world.specs.Runs.{Event, Happens, Moment, Run, State, arms, begins, boot, first_state, formatted, nth, raw, state_at_end};
-ghost use Rattle.smp_world.specs.Schedules.{AreEventsOf, AreJobsOf, IsJobOf};
+ghost use Rattle.smp_schedule.specs.declared.event.Event.{Event as Spelled};
+ghost use Rattle.smp_schedule.specs.declared.flash_line.FlashLine.{FlashLine as Line};
+ghost use Rattle.smp_world.specs.Schedules.{AreEventsOf, AreJobsOf, Flash, IsFlash, IsJobOf};
 ghost use Rattle.smp_world.specs.SetJobs.{AreTexts, HasAll, IsNoBoot, IsSetJob, NothingStruck, SparesNames};
 ghost use Rattle.smp_world.specs.Telling.{armed_in};
 ghost use Rattle.smp_world.specs.Unarmed.{unarmed_moment, unarmed_moments};
@@ -36,8 +39,9 @@ ghost use Rattle.smp_world.specs.UploadJobs.{AreDifferent, AreTagged, Begun, Has
 
 use smp_model::{
     a_pending_slot_is_good, a_pending_slot_stays, acknowledged_bytes_are_held,
-    answered_offsets_are_held, good_uploads_have_images, images_lie_within, only_a_save_saves,
-    requests_keep_to_their_part, steps_are_due, steps_need_the_flash,
+    answered_offsets_are_held, devices_stay_consistent, good_uploads_have_images, images_end,
+    images_lie_within, only_a_save_saves, packets_have_texts, requests_keep_to_their_part,
+    steps_are_due, steps_need_the_flash,
 };
 use smp_reply::{device_replies_are_sendable, replies_are_told};
 use smp_request::requests_are_meant;
@@ -105,6 +109,21 @@ pub fn a_device_that_is_down_waits_for_a_boot()
     ensures cut { (sizes : FlashSizes) (s : State) (e : Event) (m : Moment) (r : Meant)
         → Happens sizes s e m → m.request ≡ Some r → m.reply ≡ None → m.state.up ≡ false }
 {}
+
+/// A device that was formatted with good images that fit is consistent, and stays so: its slots 0 begin with good images, its
+/// settings and files are within their limits, its uploads fit, and parts go to an image that is there.
+pub fn devices_stay_consistent_in_runs()
+    ensures first { (sizes : FlashSizes) (image : List ℕ) (second : Option (List ℕ))
+        → CanFormat sizes image → IfSome second (CanFormat sizes)
+        → IsConsistent sizes (first_state sizes image second).device }
+    ensures later { (sizes : FlashSizes) (s : State) (events : List Event) (moments : List Moment)
+        → Run sizes s events moments → IsConsistent sizes s.device
+        → IsConsistent sizes (state_at_end s moments).device }
+{
+    images_end();
+    packets_have_texts();
+    devices_stay_consistent();
+}
 
 /// What was acknowledged of the upload of an image is held by it, at each place of a run.
 pub fn acknowledged_bytes_stay()
@@ -289,6 +308,17 @@ pub fn schedules_have_events()
     ensures { (folder : Folder) (s : Schedule) (jobs : List ClientJob)
         → IsLawful s → AreJobsOf folder s.events jobs
         → (events : List Event) × AreEventsOf jobs s.events events }
+{}
+
+/// Where the files are told, a schedule fixes its flash and its jobs, and these fix its events.
+pub fn told_files_fix_a_replay()
+    ensures flash { (files : List ℕ → Option (List ℕ)) (line : Option Line) (one other : Flash)
+        → IsFlash (Some files) line one → IsFlash (Some files) line other → one ≡ other }
+    ensures jobs { (files : List ℕ → Option (List ℕ)) (lines : List Spelled)
+        (one other : List ClientJob)
+        → AreJobsOf (Some files) lines one → AreJobsOf (Some files) lines other → one ≡ other }
+    ensures events { (jobs : List ClientJob) (lines : List Spelled) (one other : List Event)
+        → AreEventsOf jobs lines one → AreEventsOf jobs lines other → one ≡ other }
 {}
 
 /// The jobs of lawful lines are such as the laws on jobs ask for. An upload has bytes, the hash of its file's image, and an image

@@ -20,10 +20,10 @@ mod laws;
 pub use laws::{
     a_device_that_is_down_waits_for_a_boot, a_pending_slot_is_good_in_runs,
     a_pending_slot_stays_in_runs, acknowledged_bytes_stay, armed_troubles_strike_in_time,
-    delivered_uploads_take_few_packets, done_marks_are_there, done_sets_are_saved,
-    done_uploads_are_there, every_schedule_runs, jobs_of_schedules_are_proper,
+    delivered_uploads_take_few_packets, devices_stay_consistent_in_runs, done_marks_are_there,
+    done_sets_are_saved, done_uploads_are_there, every_schedule_runs, jobs_of_schedules_are_proper,
     lines_name_their_mail, memory_tells_what_is_armed, moments_are_the_devices, numbers_are_kept,
     orderly_uploads_take_few_packets, regions_count_their_image, runs_begin_with_nothing,
-    saves_stay, schedules_have_events, tagged_uploads_are_of_their_files,
+    saves_stay, schedules_have_events, tagged_uploads_are_of_their_files, told_files_fix_a_replay,
     unarmed_runs_are_functions,
 };
