@@ -128,6 +128,14 @@ pub not_full : (j : UploadJob) (n m : ℕ) → ((m ≡ length j.file) ⊎ (n + (
 not_full j n m (inl e) other = absurd (other e)
 not_full j n m (inr le) other = le
 
+-- at most, and not the same
+below_of : (x y : ℕ) → x ≤ y → (x ≡ y → ⊥) → x < y
+below_of x y le other = by_test (x == y) refl
+  where
+    by_test : (b : Bool) → (x == y) ≡ b → x < y
+    by_test true e = absurd (other (grind (arith, nat_tests)))
+    by_test false e = grind (arith, nat_tests, le)
+
 pub parts : LawsBelow → (sizes : Sizes) (j : UploadJob) → IsUpload j → HasRoom sizes j → (f k : ℕ) (s : State) (c : Client) (q : ℕ) (held : List ℕ) (moments : List Moment)
     → Stage j s c q (part_of j (length held)) → 0 < length held → length held < length j.file → OnImage j.image (λ t. t.upload ≡ upload_of j held) s.device → IsFront held j.file
     → length j.file ≤ length held + steps_of f (j.chunk - 7) → c.sent + f ≤ enough_packets j → suc f ≤ k → IsRun sizes s (delivered k) moments → AreAccepted moments → IsDoneSoon j (state_at_end s moments)
@@ -146,13 +154,6 @@ parts law sizes j is fits (suc f) (suc (suc k)) s c q held (a ∷ b ∷ moments)
           (next_stage sizes j s b.state c q (part_of j (length held)) (part_of j (length (held ++ p.more))) p.told st (omega (arith, le)) p.heard turn)
           (omega (arith, some, step)) below p.upload p.front (omega (arith, far, step)) (omega (arith, le)) (omega (arith, enough)) run.1.1 ok.1.1)
     ]
-  where
-    below_of : (x y : ℕ) → x ≤ y → (x ≡ y → ⊥) → x < y
-    below_of x y le other = by_test (x == y) refl
-      where
-        by_test : (b : Bool) → (x == y) ≡ b → x < y
-        by_test true e = absurd (other (grind (arith, nat_tests)))
-        by_test false e = grind (arith, nat_tests, le)
 parts law sizes j is fits (suc f) zero s c q held moments st some within up_ front far le enough run ok = absurd (omega (arith, enough))
 parts law sizes j is fits (suc f) (suc zero) s c q held moments st some within up_ front far le enough run ok = absurd (omega (arith, enough))
 parts law sizes j is fits (suc f) (suc (suc k)) s c q held [] st some within up_ front far le enough run ok = absurd run
@@ -196,13 +197,6 @@ from_start law sizes image second j (suc (suc k)) s (a ∷ b ∷ moments) e is f
           (next_stage sizes j s b.state (begun (uploads j)) 0 (start_of j) (part_of j (length p.more)) p.told st few p.heard turn)
           (omega (arith, big, step)) below p.upload p.front (omega (arith, far, step)) (omega arith) (omega (arith, enough)) run.1.1 ok.1.1)
     ]
-  where
-    below_of : (x y : ℕ) → x ≤ y → (x ≡ y → ⊥) → x < y
-    below_of x y le other = by_test (x == y) refl
-      where
-        by_test : (b : Bool) → (x == y) ≡ b → x < y
-        by_test true e = absurd (other (grind (arith, nat_tests)))
-        by_test false e = grind (arith, nat_tests, le)
 from_start law sizes image second j zero s moments e is fits enough run ok = absurd (omega (arith, enough))
 from_start law sizes image second j (suc zero) s moments e is fits enough run ok = absurd (omega (arith, enough))
 from_start law sizes image second j (suc (suc k)) s [] e is fits enough run ok = absurd run

@@ -22,7 +22,7 @@ use Rattle.smp_jobs.specs.Jobs.{Next, asks, ends, nth_of_set}
 use Rattle.smp_world.specs.SetJobs.{LacksName, NamesDiffer, AreTexts, HasAll}
 use Rattle.smp_world.specs.Below.{LawsBelow, OnlySaves, StepsAreDue}
 use Rattle.smp_world.proofs.Cases.{by_if}
-use Rattle.smp_world.proofs.SparingRequests.{Spares, running_same, else_same}
+use Rattle.smp_world.proofs.SparingRequests.{IsNoWrite, Spares, running_same, else_same}
 use Rattle.smp_world.proofs.WrittenSettings.{written_same, written_other}
 
 -- the settings of a device
@@ -186,19 +186,31 @@ write_does sizes d n v =
     (λ _. inr (refl, refl))))
 
 -- the settings after requests of others
-pub else_kept : StepsAreDue → OnlySaves → (settings : List Setting) (sizes : Sizes) (d : AbstractDevice) (m : Meant) → Spares settings m → Kept settings (memory d) (memory (applied (does sizes d m).steps d))
-else_kept due law settings sizes d (meant.setting_write n v) s = record { running = by_written (write_does sizes d n v); saved = saved_by law sizes d (meant.setting_write n v) }
+-- a request that writes no setting keeps those that run
+unwritten : StepsAreDue → OnlySaves → (settings : List Setting) (sizes : Sizes) (d : AbstractDevice) (m : Meant) → Spares settings m → IsNoWrite m → Kept settings (memory d) (memory (applied (does sizes d m).steps d))
+unwritten due law settings sizes d m s no_write = record {
+  running = same_kept settings d.running (applied (does sizes d m).steps d).running (running_same (does sizes d m).steps d (else_same due settings sizes d m s no_write));
+  saved = saved_by law sizes d m;
+}
+
+-- one that writes another's setting does too
+written : OnlySaves → (settings : List Setting) (sizes : Sizes) (d : AbstractDevice) (n v : List ℕ) → LacksName n settings
+    → Kept settings (memory d) (memory (applied (does sizes d (meant.setting_write n v)).steps d))
+written law settings sizes d n v lacks = record { running = by_written (write_does sizes d n v); saved = saved_by law sizes d (meant.setting_write n v) }
   where
     by_written : Written d n v (does sizes d (meant.setting_write n v)) → KeptAmong settings d.running (applied (does sizes d (meant.setting_write n v)).steps d).running
     by_written (inl k) = same_kept settings d.running (applied (does sizes d (meant.setting_write n v)).steps d).running (ap (λ (t : List Step). (applied t d).running) k.1)
-    by_written (inr k) = subst (λ (t : List Step). KeptAmong settings d.running (applied t d).running) (sym k.1) (lacks_kept settings n v d.running s)
-else_kept due law settings sizes d (meant.echo text) s = record { running = same_kept settings d.running _ (running_same (does sizes d (meant.echo text)).steps d (else_same due settings sizes d (meant.echo text) s tt)); saved = saved_by law sizes d (meant.echo text) }
-else_kept due law settings sizes d meant.image_list s = record { running = same_kept settings d.running _ (running_same (does sizes d meant.image_list).steps d (else_same due settings sizes d meant.image_list s tt)); saved = saved_by law sizes d meant.image_list }
-else_kept due law settings sizes d (meant.image_set hash confirm) s = record { running = same_kept settings d.running _ (running_same (does sizes d (meant.image_set hash confirm)).steps d (else_same due settings sizes d (meant.image_set hash confirm) s tt)); saved = saved_by law sizes d (meant.image_set hash confirm) }
-else_kept due law settings sizes d (meant.upload image len off sha part) s = record { running = same_kept settings d.running _ (running_same (does sizes d (meant.upload image len off sha part)).steps d (else_same due settings sizes d (meant.upload image len off sha part) s tt)); saved = saved_by law sizes d (meant.upload image len off sha part) }
-else_kept due law settings sizes d meant.save s = record { running = same_kept settings d.running _ (running_same (does sizes d meant.save).steps d (else_same due settings sizes d meant.save s tt)); saved = saved_by law sizes d meant.save }
-else_kept due law settings sizes d (meant.file_read off name) s = record { running = same_kept settings d.running _ (running_same (does sizes d (meant.file_read off name)).steps d (else_same due settings sizes d (meant.file_read off name) s tt)); saved = saved_by law sizes d (meant.file_read off name) }
-else_kept due law settings sizes d (meant.file_write off part len name) s = record { running = same_kept settings d.running _ (running_same (does sizes d (meant.file_write off part len name)).steps d (else_same due settings sizes d (meant.file_write off part len name) s tt)); saved = saved_by law sizes d (meant.file_write off part len name) }
+    by_written (inr k) = subst (λ (t : List Step). KeptAmong settings d.running (applied t d).running) (sym k.1) (lacks_kept settings n v d.running lacks)
+
+pub else_kept : StepsAreDue → OnlySaves → (settings : List Setting) (sizes : Sizes) (d : AbstractDevice) (m : Meant) → Spares settings m → Kept settings (memory d) (memory (applied (does sizes d m).steps d))
+else_kept due law settings sizes d (meant.setting_write n v) s = written law settings sizes d n v s
+else_kept due law settings sizes d (meant.echo text) s = unwritten due law settings sizes d (meant.echo text) s tt
+else_kept due law settings sizes d meant.image_list s = unwritten due law settings sizes d meant.image_list s tt
+else_kept due law settings sizes d (meant.image_set hash confirm) s = unwritten due law settings sizes d (meant.image_set hash confirm) s tt
+else_kept due law settings sizes d (meant.upload image len off sha part) s = unwritten due law settings sizes d (meant.upload image len off sha part) s tt
+else_kept due law settings sizes d meant.save s = unwritten due law settings sizes d meant.save s tt
+else_kept due law settings sizes d (meant.file_read off name) s = unwritten due law settings sizes d (meant.file_read off name) s tt
+else_kept due law settings sizes d (meant.file_write off part len name) s = unwritten due law settings sizes d (meant.file_write off part len name) s tt
 else_kept due law settings sizes d m s = absurd s
 
 -- what a reply to the request of a number tells: that its setting runs, or that all are saved

@@ -131,46 +131,62 @@ base_came j s t c p reply u b = record {
   answers = b.answers;
 }
 
--- The own packet came up.
-pub own_up : LawsBelow → (sizes : Sizes) (j : UploadJob) → IsUpload j → HasRoom sizes j → (s t : State) (c : Client) (p : Mail) (cm : Came) (reply : Option Said) → Base j s c → Phase sizes j s.device s.replies c
-    → newest 1 s.packets ≡ Some p → count_of 1 s.replies + 1 ≡ count_of 1 s.packets → IsAccepted reply → reply ≡ cm.went.reply → cm.went.struck ≡ false → Comes sizes s.armed s.device (meaning p.message) cm
-    → t.device ≡ after_coming cm s.device → ((x : Said) → reply ≡ Some x → is_reset (meaning p.message) ≡ false → CameUp s t p x) → Going sizes j t
-own_up law sizes j is room s t c p cm reply b (part_waits k w) new once ok rep calm comes dev came =
-    let same : p ≡ mail_of c = some_same p (mail_of c) (sym new ∙ b.newest) in
-    let message : p.message ≡ c.request.packet = ap (λ (x : Mail). x.message) same in
-    let means_ : meaning p.message ≡ means w.request = ap meaning message ∙ part_means law j c w.sequence w.request is w.part w.packet in
-    let goes : Comes sizes s.armed s.device (means w.request) cm = subst (λ (x : Result Meant ℕ). Comes sizes s.armed s.device x cm) means_ comes in
-    let reset_ = part_no_reset j w.request w.part in
-    let said_ : reply ≡ Some (does sizes s.device w.request).reply = rep ∙ (unstruck sizes s.armed s.device (means w.request) cm.went calm goes.goes).1 in
-    let up_ = came (does sizes s.device w.request).reply said_ (ap is_reset means_ ∙ reset_) in
+-- The own packet came up: it is the newest, and has no answer yet; nothing strikes, and the device accepts it.
+pub record OwnComes (sizes : Sizes) (s t : State) (p : Mail) (cm : Came) : Type 0 where
+  pub newest_one : newest 1 s.packets ≡ Some p
+  pub once : count_of 1 s.replies + 1 ≡ count_of 1 s.packets
+  pub accepted : IsAccepted cm.went.reply
+  pub calm : cm.went.struck ≡ false
+  pub comes : Comes sizes s.armed s.device (meaning p.message) cm
+  pub device : t.device ≡ after_coming cm s.device
+  pub came : (x : Said) → cm.went.reply ≡ Some x → is_reset (meaning p.message) ≡ false → CameUp s t p x
+
+abbrev answer_of : Sizes → State → Meant → Said
+answer_of sizes s r = (does sizes s.device r).reply
+
+-- what is so then, where the packet is that of a request: it was answered, and its reply is the newest
+pub record OwnCame (sizes : Sizes) (s t : State) (c : Client) (p : Mail) (cm : Came) (r : Meant) : Type 0 where
+  pub accepted : (is_error (answer_of sizes s r) ≡ false) × CanSay (answer_of sizes s r)
+  pub state : CameUp s t p (answer_of sizes s r)
+  pub last : newest 1 t.replies ≡ Some (record { client = 1; message = reply_message c.request.packet (answer_of sizes s r) })
+  pub count : count_of 1 t.replies ≡ count_of 1 s.replies + 1
+  pub sides : SameSides (applied (does sizes s.device r).steps s.device) t.device
+
+own_came : (sizes : Sizes) (s t : State) (c : Client) (p : Mail) (cm : Came) (r : Meant) → p ≡ mail_of c → meaning c.request.packet ≡ means r → is_reset (means r) ≡ false → OwnComes sizes s t p cm
+    → OwnCame sizes s t c p cm r
+own_came sizes s t c p cm r same means_ no_reset k =
+    let meant_ : meaning p.message ≡ means r = ap (λ (x : Mail). meaning x.message) same ∙ means_ in
+    let comes : Comes sizes s.armed s.device (means r) cm = subst (λ (x : Result Meant ℕ). Comes sizes s.armed s.device x cm) meant_ k.comes in
+    let said_ : cm.went.reply ≡ Some (answer_of sizes s r) = (unstruck sizes s.armed s.device (means r) cm.went k.calm comes.goes).1 in
+    let state = k.came (answer_of sizes s r) said_ (ap is_reset meant_ ∙ no_reset) in
     let own : p.client ≡ 1 = ap (λ (x : Mail). x.client) same in
-    let reply_ : Mail = record { client = p.client; message = reply_message p.message (does sizes s.device w.request).reply } in
-    let last : newest 1 t.replies ≡ Some (record { client = 1; message = reply_message c.request.packet (does sizes s.device w.request).reply }) =
-    ap (newest 1) up_.replies ∙ newest_own 1 s.replies reply_ own ∙ ap (λ (x : Mail). Some (record { client = x.client; message = reply_message x.message (does sizes s.device w.request).reply })) same in
-    let counted = ap (count_of 1) up_.replies ∙ count_own 1 s.replies reply_ own in
+    let reply : Mail = record { client = p.client; message = reply_message p.message (answer_of sizes s r) } in
+    record {
+      accepted = subst IsAccepted said_ k.accepted;
+      state = state;
+      last = ap (newest 1) state.replies ∙ newest_own 1 s.replies reply own
+          ∙ ap (λ (x : Mail). Some (record { client = x.client; message = reply_message x.message (answer_of sizes s r) })) same;
+      count = ap (count_of 1) state.replies ∙ count_own 1 s.replies reply own;
+      sides = λ i. ap (side_at i) k.device ∙ came_side sizes s.armed s.device (means r) cm no_reset k.calm comes i;
+    }
+
+pub own_up : LawsBelow → (sizes : Sizes) (j : UploadJob) → IsUpload j → HasRoom sizes j → (s t : State) (c : Client) (p : Mail) (cm : Came) → Base j s c → Phase sizes j s.device s.replies c
+    → OwnComes sizes s t p cm → Going sizes j t
+own_up law sizes j is room s t c p cm b (part_waits n w) k =
+    let same : p ≡ mail_of c = some_same p (mail_of c) (sym k.newest_one ∙ b.newest) in
+    let came = own_came sizes s t c p cm w.request same (part_means law j c w.sequence w.request is w.part w.packet) (part_no_reset j w.request w.part) k in
     record {
       client = c;
-      base = base_came j s t c p (does sizes s.device w.request).reply up_ b;
-      phase = part_answered (counted ∙ k) (own_answered law sizes j is room s t c (does sizes s.device w.request).reply t.replies b.job w refl (subst IsAccepted said_ ok)
-          (λ i. ap (side_at i) dev ∙ came_side sizes s.armed s.device (means w.request) cm reset_ calm goes i) last);
+      base = base_came j s t c p (answer_of sizes s w.request) came.state b;
+      phase = part_answered (came.count ∙ n) (own_answered law sizes j is room s t c (answer_of sizes s w.request) t.replies b.job w refl came.accepted came.sides came.last);
     }
-own_up law sizes j is room s t c p cm reply b (mark_waits k w) new once ok rep calm comes dev came =
-    let same : p ≡ mail_of c = some_same p (mail_of c) (sym new ∙ b.newest) in
-    let message : p.message ≡ c.request.packet = ap (λ (x : Mail). x.message) same in
-    let means_ : meaning p.message ≡ means (mark_of j) = ap meaning message ∙ ap meaning w.packet ∙ mark_means law j w.sequence is in
-    let goes : Comes sizes s.armed s.device (means (mark_of j)) cm = subst (λ (x : Result Meant ℕ). Comes sizes s.armed s.device x cm) means_ comes in
-    let said_ : reply ≡ Some (does sizes s.device (mark_of j)).reply = rep ∙ (unstruck sizes s.armed s.device (means (mark_of j)) cm.went calm goes.goes).1 in
-    let up_ = came (does sizes s.device (mark_of j)).reply said_ (ap is_reset means_) in
-    let own : p.client ≡ 1 = ap (λ (x : Mail). x.client) same in
-    let reply_ : Mail = record { client = p.client; message = reply_message p.message (does sizes s.device (mark_of j)).reply } in
-    let last : newest 1 t.replies ≡ Some (record { client = 1; message = reply_message c.request.packet (does sizes s.device (mark_of j)).reply }) =
-    ap (newest 1) up_.replies ∙ newest_own 1 s.replies reply_ own ∙ ap (λ (x : Mail). Some (record { client = x.client; message = reply_message x.message (does sizes s.device (mark_of j)).reply })) same in
-    let counted = ap (count_of 1) up_.replies ∙ count_own 1 s.replies reply_ own in
+own_up law sizes j is room s t c p cm b (mark_waits n w) k =
+    let same : p ≡ mail_of c = some_same p (mail_of c) (sym k.newest_one ∙ b.newest) in
+    let came = own_came sizes s t c p cm (mark_of j) same (ap meaning w.packet ∙ mark_means law j w.sequence is) refl k in
     record {
       client = c;
-      base = base_came j s t c p (does sizes s.device (mark_of j)).reply up_ b;
-      phase = mark_answered (counted ∙ k) (mark_answer law sizes j is s t c (does sizes s.device (mark_of j)).reply t.replies b.job w refl (subst IsAccepted said_ ok)
-          (λ i. ap (side_at i) dev ∙ came_side sizes s.armed s.device (means (mark_of j)) cm refl calm goes i) last);
+      base = base_came j s t c p (answer_of sizes s (mark_of j)) came.state b;
+      phase = mark_answered (came.count ∙ n) (mark_answer law sizes j is s t c (answer_of sizes s (mark_of j)) t.replies b.job w refl came.accepted came.sides came.last);
     }
-own_up law sizes j is room s t c p cm reply b (part_answered k w) new once ok rep calm comes dev came = let sent = b.sent in absurd (omega (arith, once, k, sent))
-own_up law sizes j is room s t c p cm reply b (mark_answered k w) new once ok rep calm comes dev came = let sent = b.sent in absurd (omega (arith, once, k, sent))
+own_up law sizes j is room s t c p cm b (part_answered n w) k = let sent = b.sent in absurd (omega (arith, k.once, n, sent))
+own_up law sizes j is room s t c p cm b (mark_answered n w) k = let sent = b.sent in absurd (omega (arith, k.once, n, sent))

@@ -156,33 +156,45 @@ other_leaves : LawsBelow → (sizes : Sizes) (j : UploadJob) (d : AbstractDevice
 other_leaves law sizes j d (Ok m) i f = other_side law sizes j d m i f
 other_leaves law sizes j d (Err n) i f = λ n. refl
 
+came_of : (sizes : Sizes) (s : State) (n : ℕ) (p : Mail) (m : Moment) (h : UpComes sizes true s n p m) → h.0.went.struck ≡ false → (x : Said) → h.0.went.reply ≡ Some x → is_reset (meaning p.message) ≡ false → CameUp s m.state p x
+came_of sizes s n p m h calm = λ x e not_reset. record {
+  up = ap (λ (o : Moment). o.state.up) h.2 ∙ came_up sizes s.armed s.device (meaning p.message) h.0 not_reset calm h.1;
+  clients = ap (λ (o : Moment). o.state.clients) h.2;
+  packets = ap (λ (o : Moment). o.state.packets) h.2;
+  replies = ap (λ (o : Moment). o.state.replies) h.2 ∙ ap (with_reply s.replies p) e;
+}
+
+-- a packet of another
+other_up : LawsBelow → (sizes : Sizes) (j : UploadJob) (s : State) (n : ℕ) (p : Mail) (m : Moment) (h : UpComes sizes true s n p m) → h.0.went.struck ≡ false → IsOfKind IsOther p.message → (p.client ≡ 1 → ⊥)
+    → Going sizes j s → Going sizes j m.state
+other_up law sizes j s n p m h calm kind other g =
+    let spares : IfOther (meaning p.message) = subst (λ (x : Message). IfOther (meaning x)) (sym kind.packet) (other_means kind.sequence kind.request kind.kind) in
+    let not_reset = other_no_reset (meaning p.message) spares in
+    let said_ = (unstruck sizes s.armed s.device (meaning p.message) h.0.went calm h.1.goes).1 in
+    let file = phase_file sizes j s.device s.replies g.client g.phase in
+    let came = came_of sizes s n p m h calm (response_to sizes s.device (meaning p.message)).reply said_ not_reset in
+    let mail : Mail = record { client = p.client; message = reply_message p.message (response_to sizes s.device (meaning p.message)).reply } in
+    going_side sizes j s m.state g.client (base_came j s m.state g.client p (response_to sizes s.device (meaning p.message)).reply came g.base)
+    (λ i. ap (λ (o : Moment). side_at i o.state.device) h.2
+        ∙ (came_side sizes s.armed s.device (meaning p.message) h.0 not_reset calm h.1 i ∙ other_leaves law sizes j s.device (meaning p.message) spares file i))
+    (ap (newest 1) came.replies ∙ newest_other 1 s.replies mail other) (ap (count_of 1) came.replies ∙ count_other 1 s.replies mail other) g.phase
+
 up_going : LawsBelow → (sizes : Sizes) (j : UploadJob) → IsUpload j → HasRoom sizes j → (s : State) (n : ℕ) (p : Mail) (m : Moment) → nth s.packets n ≡ Some p → m.struck ≡ false → UpOnce 1 s (Some p) m → UpComes sizes true s n p m → Going sizes j s → Going sizes j m.state
-up_going law sizes j is room s n p m at calm once h g =
-    let cm = h.0 in
-    let calm_ : cm.went.struck ≡ false = left_false cm.went.struck (is_boot_struck cm.boot) (sym (ap (λ (o : Moment). o.struck) h.2) ∙ calm) in
-    let said_ = unstruck sizes s.armed s.device (meaning p.message) cm.went calm_ h.1.goes in
-    let dev : m.state.device ≡ after_coming cm s.device = ap (λ (o : Moment). o.state.device) h.2 in
-    let came : (x : Said) → cm.went.reply ≡ Some x → is_reset (meaning p.message) ≡ false → CameUp s m.state p x = λ x e r. record {
-      up = ap (λ (o : Moment). o.state.up) h.2 ∙ came_up sizes s.armed s.device (meaning p.message) cm r calm_ h.1;
-      clients = ap (λ (o : Moment). o.state.clients) h.2;
-      packets = ap (λ (o : Moment). o.state.packets) h.2;
-      replies = ap (λ (o : Moment). o.state.replies) h.2 ∙ ap (with_reply s.replies p) e;
-    } in
-    let reply : m.reply ≡ cm.went.reply = ap (λ (o : Moment). o.reply) h.2 in
+up_going law sizes j is room s n p m at struck once h g =
+    let calm : h.0.went.struck ≡ false = left_false h.0.went.struck (is_boot_struck h.0.boot) (sym (ap (λ (o : Moment). o.struck) h.2) ∙ struck) in
     elim (same_or p.client 1) [
       | inl own ↦
           (let orderly = once own in
-          own_up law sizes j is room s m.state g.client p cm cm.went.reply g.base g.phase orderly.0 orderly.1 (subst IsAccepted reply orderly.2) refl calm_ h.1 dev came)
-      | inr other ↦
-          (let kind = nth_all (λ (q : Mail). (q.client ≡ 1 → ⊥) → IsOfKind IsOther q.message) s.packets n p g.base.mails at other in
-          let spares : IfOther (meaning p.message) = subst (λ (x : Message). IfOther (meaning x)) (sym kind.packet) (other_means kind.sequence kind.request kind.kind) in
-          let reset_ = other_no_reset (meaning p.message) spares in
-          let file = phase_file sizes j s.device s.replies g.client g.phase in
-          let up_ = came (response_to sizes s.device (meaning p.message)).reply said_.1 reset_ in
-          let mail : Mail = record { client = p.client; message = reply_message p.message (response_to sizes s.device (meaning p.message)).reply } in
-          going_side sizes j s m.state g.client (base_came j s m.state g.client p (response_to sizes s.device (meaning p.message)).reply up_ g.base)
-          (λ i. ap (side_at i) dev ∙ (came_side sizes s.armed s.device (meaning p.message) cm reset_ calm_ h.1 i ∙ other_leaves law sizes j s.device (meaning p.message) spares file i))
-          (ap (newest 1) up_.replies ∙ newest_other 1 s.replies mail other) (ap (count_of 1) up_.replies ∙ count_other 1 s.replies mail other) g.phase)
+          own_up law sizes j is room s m.state g.client p h.0 g.base g.phase (record {
+            newest_one = orderly.0;
+            once = orderly.1;
+            accepted = subst IsAccepted (ap (λ (o : Moment). o.reply) h.2) orderly.2;
+            calm = calm;
+            comes = h.1;
+            device = ap (λ (o : Moment). o.state.device) h.2;
+            came = came_of sizes s n p m h calm;
+          }))
+      | inr other ↦ other_up law sizes j s n p m h calm (nth_all (λ (q : Mail). (q.client ≡ 1 → ⊥) → IsOfKind IsOther q.message) s.packets n p g.base.mails at other) other g
     ]
 
 same_state : (sizes : Sizes) (j : UploadJob) (s t : State) → t ≡ s → Either_way sizes j s → Either_way sizes j t

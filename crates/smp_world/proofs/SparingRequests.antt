@@ -140,22 +140,22 @@ running_same (OnSide i t ∷ steps) d h = running_same steps (apply (OnSide i t)
 running_same (Save ∷ steps) d h = running_same steps (apply Save d) h.1
 running_same (Run c ∷ steps) d h = running_same steps (apply (Run c) d) h.1 ∙ change_running c d h.0
 
-abbrev IsWrite : Meant → Type 0
-IsWrite (meant.setting_write name val) = ⊥
-IsWrite m = Unit {0}
+abbrev pub IsNoWrite : Meant → Type 0
+IsNoWrite (meant.setting_write name val) = ⊥
+IsNoWrite m = Unit {0}
 
-due_no_change : (settings : List Setting) (target : ℕ) (m : Meant) (d : AbstractDevice) (c : Change) → Spares settings m → IsWrite m → IsChangeDue target m d c → IsNoChange c
-due_no_change settings target m d (write_setting name val) s w h = subst IsWrite h w
+due_no_change : (settings : List Setting) (target : ℕ) (m : Meant) (d : AbstractDevice) (c : Change) → Spares settings m → IsNoWrite m → IsChangeDue target m d c → IsNoChange c
+due_no_change settings target m d (write_setting name val) s w h = subst IsNoWrite h w
 due_no_change settings target m d (delete_setting name) s w h = subst (Spares settings) h s
 due_no_change settings target m d load_settings s w h = subst (Spares settings) h s
 due_no_change settings target m d (begin_file name announced part) s w h = tt
 due_no_change settings target m d (append_file name part) s w h = tt
 due_no_change settings target m d (aim_at image) s w h = tt
 
-due_keeps : (settings : List Setting) (sizes : Sizes) (target : ℕ) (m : Meant) → Spares settings m → IsWrite m → (d : AbstractDevice) (t : Step) → IsStepDue sizes target m d t → KeepsRunning t
+due_keeps : (settings : List Setting) (sizes : Sizes) (target : ℕ) (m : Meant) → Spares settings m → IsNoWrite m → (d : AbstractDevice) (t : Step) → IsStepDue sizes target m d t → KeepsRunning t
 due_keeps settings sizes target m s w d (OnSide i t) h = tt
 due_keeps settings sizes target m s w d Save h = tt
 due_keeps settings sizes target m s w d (Run c) h = due_no_change settings target m d c s w h
 
-pub else_same : StepsAreDue → (settings : List Setting) (sizes : Sizes) (d : AbstractDevice) (m : Meant) → Spares settings m → IsWrite m → EachStep KeepsRunning (does sizes d m).steps
+pub else_same : StepsAreDue → (settings : List Setting) (sizes : Sizes) (d : AbstractDevice) (m : Meant) → Spares settings m → IsNoWrite m → EachStep KeepsRunning (does sizes d m).steps
 else_same law settings sizes d m s w = each_along (IsStepDue sizes d.target m) KeepsRunning (does sizes d m).steps d (due_keeps settings sizes d.target m s w) (does_due law sizes d m)
