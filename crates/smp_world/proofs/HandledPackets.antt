@@ -1,4 +1,4 @@
--- A packet from nobody does what the abstract device does with its bytes.
+-- Raw bytes do what the abstract device does with them.
 use Rattle.std.proofs.Common.{◌≡◌, ℕ, List, Bool, true, false, if◌then◌else◌, Option, Some, None, Result, Ok, refl, ap, ◌∙◌}
 use Rattle.smp_header.specs.Message.{Message, packet}
 use Rattle.smp_model.specs.declared.device.AbstractDevice.{AbstractDevice}

@@ -14,7 +14,7 @@ use Rattle.smp_model.specs.Steps.{Step, side_at, applied}
 use Rattle.smp_world.specs.Below.{LawsBelow}
 use Rattle.smp_jobs.specs.Clients.{Client, Turn, begun, client_hears, client_waited}
 use Rattle.smp_world.specs.Goings.{Armed, durable, Booted, Boots, after_boot}
-use Rattle.smp_world.specs.Comings.{after_coming, is_boot_struck, is_up}
+use Rattle.smp_world.specs.Comings.{is_boot_struck, is_up}
 use Rattle.smp_jobs.specs.Jobs.{UploadJob, Job, uploads, End, done, start_of}
 use Rattle.smp_world.specs.Deliveries.{newest, count_of, UpOnce, DownOnce, IsOrderly, AreOrderly, NoUpload, GoesWell, IsAccepted, HasRoom}
 use Rattle.smp_world.specs.Runs.{Event, begins, raw, up, down, quiet, arms, boot, Mail, State, Moment, nth, with_nth, number_of, Happens, Run as IsRun, unless_ended, moves, comes_down, client_begins, with_packet, with_reply, UpComes, UpNamed, BootComes, state_booted, state_at_end, first_state}
@@ -176,7 +176,7 @@ other_up law sizes j s n p m h calm kind other g =
     let mail : Mail = record { client = p.client; message = reply_message p.message (response_to sizes s.device (meaning p.message)).reply } in
     going_side sizes j s m.state g.client (base_came j s m.state g.client p (response_to sizes s.device (meaning p.message)).reply came g.base)
     (λ i. ap (λ (o : Moment). side_at i o.state.device) h.2
-        ∙ (came_side sizes s.armed s.device (meaning p.message) h.0 not_reset calm h.1 i ∙ other_leaves law sizes j s.device (meaning p.message) spares file i))
+    ∙ (came_side sizes s.armed s.device (meaning p.message) h.0 not_reset calm h.1 i ∙ other_leaves law sizes j s.device (meaning p.message) spares file i))
     (ap (newest 1) came.replies ∙ newest_other 1 s.replies mail other) (ap (count_of 1) came.replies ∙ count_other 1 s.replies mail other) g.phase
 
 up_going : LawsBelow → (sizes : Sizes) (j : UploadJob) → IsUpload j → HasRoom sizes j → (s : State) (n : ℕ) (p : Mail) (m : Moment) → nth s.packets n ≡ Some p → m.struck ≡ false → UpOnce 1 s (Some p) m → UpComes sizes true s n p m → Going sizes j s → Going sizes j m.state

@@ -1,4 +1,4 @@
--- In every run without packets from nobody, each upload is a front of the file of a job for its image.
+-- In every run without raw bytes, each upload is a front of the file of a job for its image.
 use Rattle.std.proofs.Common.{◌≡◌, inl, inr, ◌+◌, ℕ, zero, suc, List, [], ◌∷◌, ◌++◌, length, Bool, true, false, Option, Some, None, Result, Ok, Err, refl, sym, ap, subst, ◌∙◌}
 use Rattle.std.specs.Prelude.{All, Contains, get_or}
 use Rattle.std.proofs.lemmas.Option.{slice_get_within, get_or_from_slice_get}
@@ -177,7 +177,7 @@ tagged_runs law J sizes image second events moments tagged of_ r = λ i s u dige
     let inv = run_inv law J tagged sizes (first_state sizes image second) events moments of_ r (first_inv J sizes image second) in
     of_digest J tagged i s.upload u digest j (inv.device i s found) has d is same
 
--- a schedule without packets from nobody begins its own jobs
+-- a schedule without raw bytes begins its own jobs
 one_among : (events later : List Event) (e : Event) → IsNotRaw e → Contains events e → IsAmong (Begun (events ++ later)) e
 one_among events later (begins (uploads j)) n h = Contains-append_left events later (begins (uploads j)) h
 one_among events later (begins lists) n h = tt

@@ -80,7 +80,7 @@ abbrev pub AreOrderly : ℕ → State → List Event → List Moment → Type 0
 AreOrderly k s (e ∷ events) (m ∷ moments) = (m.struck ≡ false) × WhileGoing k s (IsOrderly k s e m) × AreOrderly k m.state events moments
 AreOrderly k s events moments = Unit {0}
 
--- no packet from nobody, and no further upload
+-- no raw bytes, and no further upload
 abbrev pub NoUpload : Event → Type 0
 NoUpload (begins (uploads j)) = ⊥
 NoUpload (begins lists) = Unit {0}

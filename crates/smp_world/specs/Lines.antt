@@ -16,6 +16,7 @@ use Rattle.smp_world.specs.Goings.{BootEnd}
 pub data Did : Type 0 where
   -- it sent the packet of this number
   sent : (number : ℕ) → Did
+  -- its wait goes on
   waits : Did
   ended : End → Did
   -- it had ended before
@@ -25,13 +26,18 @@ pub data Did : Type 0 where
 
 -- what came of a packet to the device
 pub data Fate : Type 0 where
-  -- the reply, with its number where it answers a client's packet
+  -- the reply's bytes, with its number where it answers a client's packet
   replied : (number : Option ℕ) (reply : List ℕ) → Fate
+  -- it is no packet, or no request
   dropped : Fate
+  -- the device is down
   is_down : Fate
+  -- power was cut
   was_cut : Fate
+  -- there is no such packet
   missing : Fate
 
+-- one line: what it tells of is named by numbers, from 1
 pub data Line : Type 0 where
   client_sends : (client number : ℕ) → Line
   raw : Fate → Line
@@ -44,6 +50,7 @@ pub data Line : Type 0 where
   boot_cut : Line
   boot_fault : Line
 
+-- why a job failed: by an error of the protocol, or of a group
 abbrev pub refused_text : Option ℕ → ℕ → List ℕ
 refused_text None number = codes "refused smp " ++ decimal number
 refused_text (Some group) number = codes "refused " ++ decimal group ++ codes " " ++ decimal number
@@ -84,6 +91,7 @@ pending_text None = codes "none"
 pending_text (Some marks.Test) = codes "test"
 pending_text (Some marks.Permanent) = codes "permanent"
 
+-- one image: its upload, what is pending, and whether it is confirmed
 abbrev pub side_text : Side → List ℕ
 side_text s =
     codes "upload " ++ upload_text s.upload ++ codes " pending " ++ pending_text s.pending

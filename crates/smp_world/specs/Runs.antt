@@ -28,7 +28,7 @@ pub data Which : Type 0 where
 pub data Event : Type 0 where
   -- a client begins its job
   begins : Job → Event
-  -- bytes come to the device from nobody
+  -- bytes come to the device that no client sent
   raw : List ℕ → Event
   -- a packet that a client sent comes to the device
   up : Which → Event
@@ -63,19 +63,22 @@ pub record Moment : Type 0 where
   pub struck : Bool
   pub state : State
 
+-- the one of this number, from 1
 abbrev pub nth : {A : Type 0} → List A → ℕ → Option A
 nth xs zero = None
 nth xs (suc n) = slice_get xs n
 
+-- another in its place
 abbrev pub with_nth : {A : Type 0} → List A → ℕ → A → List A
 with_nth xs zero x = xs
 with_nth xs (suc n) x = slice_set xs n x
 
+-- the number that is meant: that of the newest is the count of them
 abbrev pub number_of : {A : Type 0} → List A → Which → ℕ
 number_of xs new = length xs
 number_of xs (number n) = n
 
--- the device did nothing
+-- a moment at which the device does nothing
 abbrev pub still : Line → State → Moment
 still line s = record { lines = line ∷ []; request = None; taken = []; reply = None; struck = false; state = s }
 
@@ -94,6 +97,7 @@ abbrev pub boot_lines : Option Booted → AbstractDevice → List Line
 boot_lines None d = []
 boot_lines (Some b) d = boot_line_by b.ended d ∷ []
 
+-- the moment of a packet, by what came of it and the state then
 abbrev pub moment_of : Line → Message → Came → State → Moment
 moment_of line m c t = record {
   lines = line ∷ boot_lines c.boot t.device;
@@ -108,6 +112,7 @@ moment_of line m c t = record {
 abbrev pub reply_to : Message → Said → List ℕ
 reply_to m reply = packet_bytes (reply_message m reply)
 
+-- what is told of raw bytes that are a request
 abbrev pub raw_fate : Message → Option Said → Fate
 raw_fate m None = lines.was_cut
 raw_fate m (Some reply) = lines.replied None (reply_to m reply)
@@ -116,6 +121,8 @@ raw_fate m (Some reply) = lines.replied None (reply_to m reply)
 abbrev pub drops : State → State
 drops s = record s { device = record s.device { counters = after_drop s.device.counters } }
 
+-- what may come of raw bytes: of a request, of a packet that may be none, of bytes that may be no packet, and where the device may
+-- be down
 abbrev pub RawRequest : Sizes → State → Message → Moment → Type 0
 RawRequest sizes s m out =
     (c : Came) × Comes sizes s.armed s.device (meaning m) c × (out ≡ moment_of (lines.raw (raw_fate m c.went.reply)) m c (state_after s c))
@@ -132,6 +139,7 @@ abbrev pub RawComes : Sizes → Bool → State → List ℕ → Moment → Type 
 RawComes sizes true s bytes out = RawPacket sizes s (packet bytes) out
 RawComes sizes false s bytes out = out ≡ still (lines.raw lines.is_down) s
 
+-- what is told of a client's packet: its reply is the next one
 abbrev pub up_fate : State → Message → Option Said → Fate
 up_fate s m None = lines.was_cut
 up_fate s m (Some reply) = lines.replied (Some (length s.replies + 1)) (reply_to m reply)
@@ -144,6 +152,7 @@ with_reply replies p (Some reply) = replies ++ record { client = p.client; messa
 abbrev pub state_after_up : State → Mail → Came → State
 state_after_up s p c = record (state_after s c) { replies = with_reply s.replies p c.went.reply }
 
+-- What may come of a client's packet, which is always a request, where the device may be down; and of one that may not be there.
 abbrev pub UpComes : Sizes → Bool → State → ℕ → Mail → Moment → Type 0
 UpComes sizes true s n p out =
     (c : Came) × Comes sizes s.armed s.device (meaning p.message) c
@@ -156,11 +165,12 @@ UpNamed sizes s n (Some p) out = UpComes sizes s.up s n p out
 
 -- Moves of clients.
 
+-- the packets with the one that a client sent
 abbrev pub with_packet : List Mail → ℕ → Option Message → List Mail
 with_packet packets k None = packets
 with_packet packets k (Some m) = packets ++ record { client = k; message = m } ∷ []
 
--- what a client did in a turn that left this many packets
+-- what a client did in a turn, by the number of the packet that it sent
 abbrev pub did_end : Option End → Did
 did_end None = lines.waits
 did_end (Some e) = lines.ended e
@@ -172,20 +182,23 @@ did_by n None ended = did_end ended
 abbrev pub did_in : ℕ → Turn → Did
 did_in n t = did_by n t.packet t.client.ended
 
+-- client k after a turn, with the packet that it sent
 abbrev pub turned : (Did → Line) → State → ℕ → Turn → Moment
 turned line s k t =
     still (line (did_in (length s.packets + 1) t))
     (record s { clients = with_nth s.clients k t.client; packets = with_packet s.packets k t.packet })
 
+-- a client that had ended does nothing
 abbrev pub unless_ended : (Did → Line) → State → ℕ → Option End → Turn → Moment
 unless_ended line s k (Some e) t = still (line lines.over) s
 unless_ended line s k None t = turned line s k t
 
--- client k moves, where there is one and it had not ended
+-- client k moves, where there is one
 abbrev pub moves : (Did → Line) → State → ℕ → Option Client → (Client → Turn) → Moment
 moves line s k None turn = still (line lines.none) s
 moves line s k (Some c) turn = unless_ended line s k c.ended (turn c)
 
+-- a reply is heard by its client; a wait of a client ends; a client begins, with its first packet
 abbrev pub comes_down : State → ℕ → Option Mail → Moment
 comes_down s n None = still (lines.down n lines.none) s
 comes_down s n (Some r) = moves (lines.down n) s r.client (nth s.clients r.client) (λ c. client_hears c r.message)

@@ -37,7 +37,7 @@ abbrev pub HasAll : List Setting → List Setting → Type 0
 HasAll [] among = Unit {0}
 HasAll (s ∷ settings) among = (value_of s.name among ≡ Some s.val) × HasAll settings among
 
--- no packet comes from nobody, and no job that begins sets one of the names
+-- no raw bytes come, and no job that begins sets one of the names
 abbrev pub SparesNames : List Setting → Event → Type 0
 SparesNames settings (begins (sets others)) = AreTexts others × AreApart settings others
 SparesNames settings (begins (uploads j)) = Unit {0}

@@ -60,7 +60,7 @@ pub record IsUpload (j : UploadJob) : Type 0 where
   pub hash : length j.hash ≡ 32
   pub image : j.image ≤ 1
 
--- no packet comes from nobody, and every upload job that begins is one of these
+-- no raw bytes come, and every upload job that begins is one of these
 abbrev pub IsAmong : (UploadJob → Type 0) → Event → Type 0
 IsAmong J (begins (uploads k)) = J k
 IsAmong J (begins lists) = Unit {0}

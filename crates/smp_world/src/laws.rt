@@ -195,7 +195,7 @@ pub fn every_schedule_runs()
     steps_need_the_flash();
 }
 
-/// Where nothing is armed, the moments of a run are a function of its events. At bytes of nobody's the device does what the
+/// Where nothing is armed, the moments of a run are a function of its events. At raw bytes the device does what the
 /// abstract device does with them.
 pub fn unarmed_runs_are_functions()
     ensures handled { (sizes : FlashSizes) (s : State) (bytes : List ℕ)
@@ -206,7 +206,7 @@ pub fn unarmed_runs_are_functions()
         → moments ≡ unarmed_moments sizes s events }
 {}
 
-/// In a run without bytes of nobody's, of a schedule in which two upload jobs with one digest have one file: at each place, the
+/// In a run without raw bytes, of a schedule in which two upload jobs with one digest have one file: at each place, the
 /// bytes that were accepted of an upload that announced a digest are a front of the file of the jobs with that digest, to
 /// whichever image, whatever late packets are delivered.
 pub fn tagged_uploads_are_of_their_files()
@@ -220,7 +220,7 @@ pub fn tagged_uploads_are_of_their_files()
     laws_below();
 }
 
-/// In a run without bytes of nobody's, of a schedule whose upload jobs have different digests and different hashes, whatever was
+/// In a run without raw bytes, of a schedule whose upload jobs have different digests and different hashes, whatever was
 /// lost, repeated, late, cut or struck: where a job with a mark is done, the secondary slot of its image is pending and holds
 /// exactly its file; or the file's hash is that of an image that runs, and this is confirmed.
 pub fn done_marks_are_there()
@@ -236,7 +236,7 @@ pub fn done_marks_are_there()
     a_pending_slot_stays();
 }
 
-/// In a run without bytes of nobody's and with one upload job, to whichever image, whatever was lost, repeated, late, cut or
+/// In a run without raw bytes and with one upload job, to whichever image, whatever was lost, repeated, late, cut or
 /// struck: where the job is done, the upload of its image is complete and is exactly its file; and with a mark it is pending, or
 /// the file's hash is that of an image that runs, which is confirmed.
 pub fn done_uploads_are_there()
@@ -254,7 +254,7 @@ pub fn done_uploads_are_there()
     device_replies_are_sendable();
 }
 
-/// In a run without bytes of nobody's: where a job is done that writes settings whose names differ, no other job sets one of its
+/// In a run without raw bytes: where a job is done that writes settings whose names differ, no other job sets one of its
 /// names, and no boot, cut or failing flash operation came since its first packet, its settings are saved. Its client has the
 /// number after those that were there before it.
 pub fn done_sets_are_saved()
@@ -289,7 +289,7 @@ pub fn delivered_uploads_take_few_packets()
     laws_below();
 }
 
-/// In a run without bytes of nobody's whose one upload job begins first, among any other jobs: where each packet and each
+/// In a run without raw bytes whose one upload job begins first, among any other jobs: where each packet and each
 /// answer of its client is delivered once, in order, no wait of it ends, nothing strikes and the device accepts, the client
 /// never sends more than the length of the file divided by the chunk less 7, and 3 packets; and until it is done, each of
 /// its packets but the newest was answered.

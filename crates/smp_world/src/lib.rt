@@ -6,7 +6,7 @@
 //! | Event | What may come of it |
 //! |---|---|
 //! | a client begins | its first packet is sent |
-//! | bytes of nobody's, or a packet of a client, come to the device | the device's definition says what is answered and done; or what is armed strikes |
+//! | raw bytes, or a packet of a client, come to the device | the device's definition says what is answered and done; or what is armed strikes |
 //! | a reply comes to its client, or a wait of a client ends | the client's definition says what it sends, and when its job ends |
 //! | the flash is armed | it stays so until it strikes, or until another is armed |
 //! | a boot | the device starts; or what is armed strikes |
