@@ -1,6 +1,5 @@
 -- Each reply is the abstract device's, but for those of a trouble.
-use Rattle.std.proofs.Common.{◌≡◌, ◌≢◌, inl, inr, ◌||◌, ℕ, List, [], ◌++◌, Bool, true, false, Option, Some, None, Result, Ok, Err, refl, sym, ap, subst, ◌∙◌, append-nil}
-use Rattle.std.specs.Result.{result_ok}
+use Rattle.std.proofs.Common.{◌≡◌, ◌≢◌, inl, inr, ◌||◌, ℕ, List, [], ◌++◌, Bool, true, false, Option, Some, Result, Ok, refl, sym, ap, subst, ◌∙◌, append-nil}
 use Rattle.smp_flash.specs.declared.arm.ArmKind.{ArmKind}
 use Rattle.smp_flash.specs.declared.arm.ArmKind.TheVariants as kinds
 use Rattle.smp_model.specs.declared.device.AbstractDevice.{AbstractDevice}
@@ -11,12 +10,13 @@ use Rattle.smp_model.specs.Meant.{Meant, reset}
 use Rattle.smp_model.specs.Said.{Said}
 use Rattle.smp_model.specs.Steps.{Step, applied}
 use Rattle.smp_world.specs.Goings.{Armed, durable, Went, Goes, IsToldBy, after_going, Booted}
-use Rattle.smp_world.specs.Comings.{Came, Comes, steps_of_boot, BootsAfter, is_boot_struck}
+use Rattle.smp_world.specs.Comings.{Came, Comes, steps_of_boot, is_boot_struck}
 use Rattle.smp_model.specs.Handled.{is_reset}
 use Rattle.smp_world.specs.Laws.{TellsTrouble, IsFrontOf}
 use Rattle.smp_world.specs.Runs.{Event, State, Moment, Happens}
 use Rattle.smp_world.proofs.Deeds.{Says, Holds, each_deed}
 use Rattle.smp_world.proofs.Durably.{means, boot_durable, came_durable}
+use Rattle.smp_world.proofs.Calm.{no_boot, left_false, meant, not_reset}
 
 -- What is durable moves by the steps that were taken.
 moves_holds : (sizes : Sizes) (e : Event) → Holds sizes (λ d h x. durable x.device ≡ durable (applied x.taken d)) e
@@ -34,17 +34,6 @@ event_moves sizes s e m h = each_deed sizes (λ d h x. durable x.device ≡ dura
 -- The request of a packet.
 abbrev some : Meant → Option Meant
 some m = Some m
-
-meant : (mm : Result Meant ℕ) (r : Meant) → result_ok mm ≡ Some r → mm ≡ means r
-meant (Ok m) r e = ap means (same m r e)
-  where
-    same : (m n : Meant) → some m ≡ some n → m ≡ n
-    same m n e = cc
-meant (Err n) r e = cc
-
-left_false : (a b : Bool) → (a || b) ≡ false → a ≡ false
-left_false false b e = refl
-left_false true b e = cc
 
 going_reply : (sizes : Sizes) (h : Option Armed) (d : AbstractDevice) (r : Meant) (w : Went) → Goes sizes h d (Ok r) w → w.struck ≡ false → w.reply ≡ Some (does sizes d r).reply
 going_reply sizes h d r w (inl p) e = p.reply
@@ -67,23 +56,6 @@ replies_holds sizes r e = record {
 
 pub event_replies : (sizes : Sizes) (s : State) (e : Event) (m : Moment) (r : Meant) → Happens sizes s e m → m.request ≡ Some r → m.struck ≡ false → m.reply ≡ Some (does sizes s.device r).reply
 event_replies sizes s e m r h = each_deed sizes (Replies sizes r) s e m (replies_holds sizes r e) h
-
--- Where no boot follows.
-not_reset : (r : Meant) → r ≢ reset → is_reset (means r) ≡ false
-not_reset r n = by_test (is_reset (means r)) refl
-  where
-    is : (r : Meant) → is_reset (means r) ≡ true → r ≡ reset
-    is reset e = refl
-    is r e = cc
-
-    by_test : (b : Bool) → is_reset (means r) ≡ b → b ≡ false
-    by_test true e = absurd (n (is r e))
-    by_test false e = refl
-
-no_boot : (is : Bool) (h : Option Armed) (d : AbstractDevice) (b : Option Booted) → is ≡ false → BootsAfter is h d b → b ≡ None
-no_boot false h d None e k = refl
-no_boot false h d (Some b) e k = absurd k
-no_boot true h d b e k = cc
 
 going_front : (sizes : Sizes) (h : Option Armed) (d : AbstractDevice) (r : Meant) (w : Went) → Goes sizes h d (Ok r) w → IsFrontOf (does sizes d r).steps w.taken
 going_front sizes h d r w (inl p) = record { rest = []; split = sym (append-nil (does sizes d r).steps) ∙ ap (λ (t : List Step). t ++ []) (sym p.taken) }

@@ -1,5 +1,5 @@
 -- In every run where a job that writes settings is done, and nothing went wrong since it began, its settings are saved.
-use Rattle.std.proofs.Common.{◌≡◌, inl, inr, ◌≤◌, ◌+◌, ◌||◌, ◌++◌, ℕ, List, [], ◌∷◌, length, Bool, true, false, Option, Some, None, refl, sym, ap, subst, ◌∙◌, arith, length-append}
+use Rattle.std.proofs.Common.{◌≡◌, inl, inr, ◌≤◌, ◌+◌, ◌++◌, ℕ, List, [], ◌∷◌, length, Bool, true, false, Option, Some, None, refl, sym, ap, subst, ◌∙◌, arith, length-append}
 use Rattle.std.specs.Prelude.{IfSome, All}
 use Rattle.std.proofs.lemmas.List.Elements.{All-push, All-weaker, All-head, All-tail}
 use Rattle.smp_header.specs.Message.{Message}
@@ -23,6 +23,7 @@ use Rattle.smp_world.proofs.SparingRequests.{IsElse}
 use Rattle.smp_world.proofs.ClientKinds.{IsOfKind, HasKind, SendsKind, TurnKind, hears_kind, waited_kind}
 use Rattle.smp_world.proofs.SetClients.{AnswersMine, GoesOn, MineOk, SendsMine, TurnMine, asks_done, going, hears_mine, mine_of, over, waited_mine}
 use Rattle.smp_world.proofs.SetPackets.{After, ClientFor, Holds, MailFor, ReplyFor, else_came, kept_after, mine_came}
+use Rattle.smp_world.proofs.Calm.{left_false}
 
 -- Events.
 replied_after : (settings : List Setting) (k : ℕ) (x : Memory) (cs : List Client) (ps rs : List Mail) (p : Mail) (reply : Option Said)
@@ -55,10 +56,6 @@ came_after read law settings is k sizes s p c (inr other) calm comes a =
     replied_after settings k (memory (after_coming c s.device)) s.clients s.packets s.replies p c.went.reply
     (each_some (λ r. p.client ≡ k → AnswersMine settings (reply_message p.message r) (memory (after_coming c s.device))) c.went.reply (λ r e. absurd (other.0 e)))
     (kept_after settings k (memory s.device) (memory (after_coming c s.device)) s.clients s.packets s.replies kept a)
-
-pub left_false : (a b : Bool) → (a || b) ≡ false → a ≡ false
-left_false false b e = refl
-left_false true b e = cc
 
 up_after : LawsBelow → OnlySaves → (settings : List Setting) → IsSetJob settings → (k : ℕ) (sizes : Sizes) (is_up : Bool) (s : State) (n : ℕ) (p : Mail) (out : Moment) → MailFor settings k (memory s.device) p → out.struck ≡ false
     → UpComes sizes is_up s n p out → Holds settings k s → Holds settings k out.state

@@ -10,6 +10,7 @@ mod Unreached
 mod Possible
 mod UnarmedRuns
 mod MemoryTells
+mod Calm
 mod DeviceMoments
 mod HandledPackets
 mod AcknowledgedRuns

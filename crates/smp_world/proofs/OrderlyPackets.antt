@@ -33,7 +33,7 @@ use Rattle.smp_world.proofs.ClientKinds.{IsOfKind, HasKind}
 use Rattle.smp_world.proofs.DeliveredMail.{turn_is}
 use Rattle.smp_world.proofs.MarkAnswers.{MarkShape, mark_shape, from_right, told_offset, told_done}
 use Rattle.smp_world.proofs.FewPackets.{steps_of, part_means, part_no_reset}
-use Rattle.smp_world.proofs.SetPackets.{unstruck, no_boot}
+use Rattle.smp_world.proofs.Calm.{unstruck, no_boot}
 use Rattle.smp_world.proofs.OtherJobs.{SameSides, by_durable, clean_after, clean_same, mail_of, part_fair}
 use Rattle.smp_world.proofs.OrderlyPhases.{Base, Going, MarkAnswered, MarkWaits, PartAnswered, PartWaits, Phase, mark_answered, mark_waits, part_answered, part_waits, upload_same}
 

@@ -32,8 +32,8 @@ use Rattle.smp_world.proofs.OtherRequests.{IsOther, IfOther, other_means}
 use Rattle.smp_world.proofs.PartsTaken.{start_on}
 use Rattle.smp_world.proofs.ClientKinds.{IsOfKind, HasKind, SendsKind, TurnKind, hears_kind, waited_kind}
 use Rattle.smp_world.proofs.FewPackets.{same_or, enough_steps}
-use Rattle.smp_world.proofs.SetPackets.{unstruck}
-use Rattle.smp_world.proofs.DoneSets.{left_false}
+use Rattle.smp_world.proofs.Calm.{unstruck}
+use Rattle.smp_world.proofs.Calm.{left_false}
 use Rattle.smp_world.proofs.OtherJobs.{Clean, SameSides, by_durable, mail_of, other_begun, other_side, settle_nothing}
 use Rattle.smp_world.proofs.OrderlyPhases.{Base, Going, Over, Phase, part_waits, phase_few, phase_file, phase_moves, phase_replies}
 use Rattle.smp_world.proofs.OrderlyPackets.{CameUp, base_came, came_side, came_up, own_up}

@@ -1,5 +1,5 @@
 -- What comes of packets from such a job's first one on, where nothing strikes: of its own, and of those of other jobs.
-use Rattle.std.proofs.Common.{◌≡◌, ◌⊎◌, inl, inr, ◌≤◌, ℕ, List, length, Bool, true, false, Option, Some, None, Result, Ok, Err, refl, sym, ap, subst, ◌∙◌, arith}
+use Rattle.std.proofs.Common.{◌≡◌, ◌⊎◌, inl, inr, ◌≤◌, ℕ, List, length, false, Option, Result, Ok, Err, refl, sym, ap, subst, ◌∙◌, arith}
 use Rattle.std.specs.Prelude.{IfSome, All}
 use Rattle.std.proofs.lemmas.List.Elements.{All-weaker}
 use Rattle.smp_header.specs.Message.{Message}
@@ -14,8 +14,8 @@ use Rattle.smp_model.specs.Meant.{Meant}
 use Rattle.smp_model.specs.Said.{Said, reply_message}
 use Rattle.smp_model.specs.Steps.{Step, applied}
 use Rattle.smp_jobs.specs.Clients.{Client, packet_of}
-use Rattle.smp_world.specs.Goings.{Armed, Went, Goes, after_going, Booted}
-use Rattle.smp_world.specs.Comings.{booted_if, Came, Comes, after_coming, BootsAfter}
+use Rattle.smp_world.specs.Goings.{Armed, after_going, Booted}
+use Rattle.smp_world.specs.Comings.{booted_if, Came, Comes, after_coming}
 use Rattle.smp_world.specs.Runs.{Mail, State}
 use Rattle.smp_world.specs.SetJobs.{IsSetJob}
 use Rattle.smp_world.specs.Below.{LawsBelow, OnlySaves, StepsAreDue}
@@ -25,6 +25,7 @@ use Rattle.smp_world.proofs.KeptSettings.{Memory, memory, memory_counted, IsNth,
 use Rattle.smp_world.proofs.SparingRequests.{IsElse, IfSpares, else_means}
 use Rattle.smp_world.proofs.ClientKinds.{IsOfKind, HasKind}
 use Rattle.smp_world.proofs.SetClients.{AnswersMine, IsMine, MineOk, kept_answer, kept_client, kept_mine}
+use Rattle.smp_world.proofs.Calm.{unstruck, no_boot, meant, not_reset}
 
 -- The state from the job's first packet on. Its client has the number k.
 abbrev pub ClientFor : List Setting → ℕ → Memory → ℕ → Client → Type 0
@@ -60,20 +61,6 @@ kept_after settings k x y cs ps rs kept a = record {
   packets = All-weaker (MailFor settings k x) (MailFor settings k y) (kept_mail settings k x y kept) ps a.packets;
   replies = All-weaker (ReplyFor settings k x) (ReplyFor settings k y) (λ r f is. kept_answer settings r.message x y kept (f is)) rs a.replies;
 }
-
--- What came of a packet that was not struck.
-pub unstruck : (sizes : Sizes) (h : Option Armed) (d : AbstractDevice) (mm : Result Meant ℕ) (w : Went) → w.struck ≡ false → Goes sizes h d mm w
-    → (w.taken ≡ (response_to sizes d mm).steps) × (w.reply ≡ Some (response_to sizes d mm).reply)
-unstruck sizes h d mm w calm (inl p) = (p.taken, p.reply)
-unstruck sizes h d mm w calm (inr p) = absurd (both calm p.strikes)
-  where
-    both : w.struck ≡ false → w.struck ≡ true → ⊥
-    both a b = cc
-
-pub no_boot : (is : Bool) (h : Option Armed) (d : AbstractDevice) (b : Option Booted) → is ≡ false → BootsAfter is h d b → b ≡ None
-no_boot false h d None e k = refl
-no_boot false h d (Some b) e k = absurd k
-no_boot true h d b e k = cc
 
 came_memory : (sizes : Sizes) (h : Option Armed) (d : AbstractDevice) (mm : Result Meant ℕ) (c : Came) → is_reset mm ≡ false → c.went.struck ≡ false → Comes sizes h d mm c
     → memory (after_coming c d) ≡ memory (applied (response_to sizes d mm).steps d)
