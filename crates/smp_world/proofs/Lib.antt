@@ -59,3 +59,4 @@ mod Silence
 mod FirstStates
 mod Consistency
 mod ToldReplays
+mod UnstruckMoments

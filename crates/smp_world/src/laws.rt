@@ -16,6 +16,7 @@ ghost use Rattle.smp_model.specs.Does.{does};
 ghost use Rattle.smp_model.specs.Handled.{handled};
 ghost use Rattle.smp_model.specs.Laws.{EachSide, OnImage, PendingIsGood, SameUpload};
 ghost use Rattle.smp_model.specs.Meant.{Meant, reset};
+ghost use Rattle.smp_model.specs.Response.{after};
 ghost use Rattle.smp_model.specs.Sides.{SideStep};
 ghost use Rattle.smp_model.specs.Steps.{OnSide, applied, side_at, start};
 ghost use Rattle.smp_jobs.specs.Clients.{Client};
@@ -83,6 +84,20 @@ pub fn moments_are_the_devices()
     ensures moves { (sizes : FlashSizes) (s : State) (e : Event) (m : Moment)
         → Happens sizes s e m
         → durable m.state.device ≡ durable (applied m.taken s.device) }
+{}
+
+/// Where nothing struck, a request is done whole: the device is then what the abstract device is after all steps, with the reply
+/// counted. A reset starts it, and so does a boot.
+pub fn unstruck_moments_are_whole()
+    ensures taken { (sizes : FlashSizes) (s : State) (e : Event) (m : Moment) (r : Meant)
+        → r ≢ reset → Happens sizes s e m → m.request ≡ Some r → m.struck ≡ false
+        → (m.taken ≡ (does sizes s.device r).steps)
+        × (m.state.device ≡ after (does sizes s.device r) s.device) }
+    ensures restarted { (sizes : FlashSizes) (s : State) (e : Event) (m : Moment)
+        → Happens sizes s e m → m.request ≡ Some reset → m.struck ≡ false
+        → m.state.device ≡ start s.device }
+    ensures booted { (sizes : FlashSizes) (s : State) (m : Moment)
+        → Happens sizes s boot m → m.struck ≡ false → m.state.device ≡ start s.device }
 {}
 
 /// Packets, replies and clients keep their numbers, a client keeps its job, and one that has ended stays as it is.

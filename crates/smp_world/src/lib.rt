@@ -25,5 +25,5 @@ pub use laws::{
     lines_name_their_mail, memory_tells_what_is_armed, moments_are_the_devices, numbers_are_kept,
     orderly_uploads_take_few_packets, regions_count_their_image, runs_begin_with_nothing,
     saves_stay, schedules_have_events, tagged_uploads_are_of_their_files, told_files_fix_a_replay,
-    unarmed_runs_are_functions,
+    unarmed_runs_are_functions, unstruck_moments_are_whole,
 };
