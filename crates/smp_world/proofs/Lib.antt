@@ -60,3 +60,4 @@ mod FirstStates
 mod Consistency
 mod ToldReplays
 mod UnstruckMoments
+mod RunFronts

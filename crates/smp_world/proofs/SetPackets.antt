@@ -25,7 +25,7 @@ use Rattle.smp_world.proofs.KeptSettings.{Memory, memory, memory_counted, IsNth,
 use Rattle.smp_world.proofs.SparingRequests.{IsElse, IfSpares, else_means}
 use Rattle.smp_world.proofs.ClientKinds.{IsOfKind, HasKind}
 use Rattle.smp_world.proofs.SetClients.{AnswersMine, IsMine, MineOk, kept_answer, kept_client, kept_mine}
-use Rattle.smp_world.proofs.Calm.{unstruck, no_boot, meant, not_reset}
+use Rattle.smp_world.proofs.Calm.{unstruck, no_boot, not_reset}
 
 -- The state from the job's first packet on. Its client has the number k.
 abbrev pub ClientFor : List Setting → ℕ → Memory → ℕ → Client → Type 0

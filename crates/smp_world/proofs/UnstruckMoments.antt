@@ -15,7 +15,7 @@ use Rattle.smp_model.specs.Response.{after}
 use Rattle.smp_model.specs.Said.{Said}
 use Rattle.smp_model.specs.Steps.{Step, applied, counted, settle_steps, start}
 use Rattle.smp_world.specs.Comings.{Came, Comes, BootsAfter, booted_if, after_coming, steps_of_boot, is_up, is_boot_struck}
-use Rattle.smp_world.specs.Goings.{Armed, Went, counted_if, after_going, Booted, BootEnd, Boots, ended_by, booted_by, after_boot}
+use Rattle.smp_world.specs.Goings.{Armed, counted_if, after_going, Booted, BootEnd, Boots, ended_by, booted_by, after_boot}
 use Rattle.smp_world.specs.Runs.{Event, boot, State, Moment, Happens}
 use Rattle.smp_world.proofs.Calm.{left_false, unstruck, meant, not_reset, no_boot}
 use Rattle.smp_world.proofs.Deeds.{Says, Holds, each_deed}
@@ -47,12 +47,11 @@ coming_whole : (sizes : Sizes) (a : Option Armed) (d : AbstractDevice) (r : Mean
     → (c.went.taken ++ steps_of_boot c.boot ≡ (does sizes d r).steps) × (after_coming c d ≡ after (does sizes d r) d)
 coming_whole sizes a d r c n k calm =
     let none : c.boot ≡ None = no_boot (is_reset (means r)) c.went.armed (after_going c.went d) c.boot (not_reset r n) k.boots in
-    let went = unstruck sizes a d (means r) c.went calm k.goes in
-    (
+    let went = unstruck sizes a d (means r) c.went calm k.goes in (
       ap (λ (b : Option Booted). c.went.taken ++ steps_of_boot b) none ∙ append-nil c.went.taken ∙ went.0,
       ap (λ (b : Option Booted). booted_if b (after_going c.went d)) none
-      ∙ ap (λ (o : Option Said). counted_if o (applied c.went.taken d)) went.1
-      ∙ ap (λ (t : List Step). counted (does sizes d r).reply (applied t d)) went.0,
+          ∙ ap (λ (o : Option Said). counted_if o (applied c.went.taken d)) went.1
+          ∙ ap (λ (t : List Step). counted (does sizes d r).reply (applied t d)) went.0,
     )
 
 whole_holds : (sizes : Sizes) (r : Meant) (e : Event) → r ≢ reset → Holds sizes (Whole sizes r) e
@@ -81,8 +80,7 @@ coming_restarts sizes a d c k calm = by_boot c.boot k.boots calm
   where
     gone : c.went.struck ≡ false → (x : Counters) × (after_going c.went d ≡ with_counters x d)
     gone e =
-        let went = unstruck sizes a d (means reset) c.went e k.goes in
-        (
+        let went = unstruck sizes a d (means reset) c.went e k.goes in (
           (counted (does sizes d reset).reply d).counters,
           ap (λ (o : Option Said). counted_if o (applied c.went.taken d)) went.1 ∙ ap (λ (t : List Step). counted (does sizes d reset).reply (applied t d)) went.0,
         )

@@ -1,5 +1,5 @@
 //! What is so of every run. The calls do nothing: each stands for a law.
-ghost use Rattle.std.specs.Prelude.{◌≡◌, ◌≢◌, ◌≤◌, ◌<◌, ◌+◌, ◌∷◌, ◌++◌, ℕ, List, length, ◌^◌, All, Contains, Option, Some, None, IfSome, IsSome, option_map, true, false};
+ghost use Rattle.std.specs.Prelude.{◌≡◌, ◌≢◌, ◌≤◌, ◌<◌, ◌+◌, ◌∷◌, ◌++◌, ℕ, List, length, ◌^◌, All, Contains, Option, Some, None, IfSome, IsSome, flat_map, option_map, true, false};
 ghost use Rattle.smp_flash.specs.Arm.{aim_of, patience_of, troubles_of};
 ghost use Rattle.smp_flash.specs.declared.arm.Arm.{Arm};
 ghost use Rattle.smp_flash.specs.declared.region.Region.{Region};
@@ -29,14 +29,15 @@ ghost use Rattle.smp_world.specs.Below.{LawsBelow};
 ghost use Rattle.smp_world.specs.Deliveries.{AreAccepted, AreOrderly, GoesWell, HasRoom, IsDoneSoon, NoUpload, delivered, enough_packets};
 ghost use Rattle.smp_world.specs.Goings.{IsCounted, armed_by, durable};
 ghost use Rattle.smp_world.specs.Laws.{CanFormat, EachLine, IsFrontOf, IsOfChanges, IsSave, KeepsNumbers, NamesMail, NoArms, NothingSaved, Passed, TellsTrouble, acknowledged_after, image_in};
-ghost use Rattle.smp_world.specs.Runs.{Event, Happens, Moment, Run, State, arms, begins, boot, first_state, formatted, nth, raw, state_at_end};
+ghost use Rattle.smp_world.specs.Lines.{lines_text};
+ghost use Rattle.smp_world.specs.Runs.{Event, Happens, Moment, Run, State, arms, begins, boot, first_state, formatted, nth, raw, state_at_end, transcript};
 ghost use Rattle.smp_schedule.specs.declared.event.Event.{Event as Spelled};
 ghost use Rattle.smp_schedule.specs.declared.flash_line.FlashLine.{FlashLine as Line};
 ghost use Rattle.smp_world.specs.Schedules.{AreEventsOf, AreJobsOf, Flash, IsFlash, IsJobOf};
 ghost use Rattle.smp_world.specs.SetJobs.{AreTexts, HasAll, IsNoBoot, IsSetJob, NothingStruck, SparesNames};
 ghost use Rattle.smp_world.specs.Telling.{armed_in};
 ghost use Rattle.smp_world.specs.Unarmed.{unarmed_moment, unarmed_moments};
-ghost use Rattle.smp_world.specs.UploadJobs.{AreDifferent, AreTagged, Begun, HasOwnHash, IsAmong, IsDoneBy, IsMarked, IsNotRaw, IsTagged, IsUpload};
+ghost use Rattle.smp_world.specs.UploadJobs.{AreDifferent, AreTagged, Begun, HasOwnHash, IsAmong, IsDoneBy, IsFront, IsMarked, IsNotRaw, IsTagged, IsUpload};
 
 use smp_model::{
     a_pending_slot_is_good, a_pending_slot_stays, acknowledged_bytes_are_held,
@@ -206,6 +207,24 @@ pub fn regions_count_their_image()
 pub fn every_schedule_runs()
     ensures { (sizes : FlashSizes) (s : State) (events : List Event)
         → (moments : List Moment) × Run sizes s events moments }
+{
+    steps_need_the_flash();
+}
+
+/// A run of the first events of a schedule goes on with the others, whatever came of it, and each run is parted so at any place.
+/// What the first moments print is a front of the transcript of the whole run.
+pub fn fronts_of_runs_are_runs()
+    ensures goes_on { (sizes : FlashSizes) (s : State) (events later : List Event)
+        (moments : List Moment)
+        → Run sizes s events moments
+        → (more : List Moment) × Run sizes s (events ++ later) (moments ++ more) }
+    ensures parted { (sizes : FlashSizes) (s : State) (events later : List Event)
+        (moments : List Moment)
+        → Run sizes s (events ++ later) moments
+        → (firsts : List Moment) × (more : List Moment) × (moments ≡ firsts ++ more)
+        × Run sizes s events firsts × Run sizes (state_at_end s firsts) later more }
+    ensures printed { (s : State) (moments more : List Moment)
+        → IsFront (flat_map (λ m. lines_text m.lines) moments) (transcript s (moments ++ more)) }
 {
     steps_need_the_flash();
 }
