@@ -9,6 +9,7 @@ ghost use Rattle.smp_model.specs.Does.{does};
 ghost use Rattle.smp_model.specs.Meant.{Meant};
 ghost use Rattle.smp_model.specs.Said.{listed, said_of, slots_of, reply_message, reply_bytes};
 ghost use Rattle.smp_reply.specs.Held.{CanSay, CanSayEach, CanSayEntry, CanSayNumber};
+ghost use Rattle.smp_reply.specs.Laws.{RepliesAreTold};
 ghost use Rattle.smp_reply.specs.Room.{room_of, EchoFits};
 ghost use Rattle.smp_reply.specs.Sendable.{IsSendable};
 ghost use Rattle.smp_reply.specs.StandsFor.{stands_for};
@@ -34,6 +35,16 @@ pub fn reads_back(to: &Packet<'_>, reply: &Reply<'_>, asked: Asked)
 {
     let _group = to.group;
     held(reply);
+    keys_are_texts();
+    plain_maps_are_written();
+    shortest_is_read();
+}
+
+/// The data of any reply that can be sent, in either version, tells the answer that the reply stands for, whatever kind of
+/// answer is asked for. The call does nothing: it stands for the law.
+pub fn replies_are_told()
+    ensures { RepliesAreTold }
+{
     keys_are_texts();
     plain_maps_are_written();
     shortest_is_read();

@@ -7,6 +7,7 @@ ghost use Rattle.smp_model.specs.Meant.{meant_of, fields_of, upload, file_write,
 ghost use Rattle.smp_model.specs.Meaning.{meaning};
 ghost use Rattle.smp_model.specs.Written.{request_message, request_bytes};
 ghost use Rattle.smp_request.specs.Held.{CanHold, CanHoldEach};
+ghost use Rattle.smp_request.specs.Laws.{RequestsAreMeant};
 ghost use Rattle.smp_request.specs.Room.{strings_of};
 
 use smp_cbor::shortest_is_read;
@@ -28,6 +29,15 @@ pub fn reads_back(version: u8, sequence: u8, request: &Request<'_>)
     shortest_is_read();
     keys_are_texts();
     packets_are_read_back();
+}
+
+/// A packet of any request whose fields can be written means that request, in versions 1 and 2 and with any sequence. The call
+/// does nothing: it stands for the law.
+pub fn requests_are_meant()
+    ensures { RequestsAreMeant }
+{
+    shortest_is_read();
+    keys_are_texts();
 }
 
 /// The packet of a request has at most 70 bytes beside those of its texts and byte strings, in any version and with any

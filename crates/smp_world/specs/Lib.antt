@@ -1,0 +1,12 @@
+pub mod Below
+pub mod Goings
+pub mod Comings
+pub mod Telling
+pub mod Lines
+pub mod Runs
+pub mod Unarmed
+pub mod Laws
+pub mod UploadJobs
+pub mod SetJobs
+pub mod Deliveries
+pub mod Schedules
