@@ -17,7 +17,7 @@ pub const BYTES_0: &str =
 pub const BYTES_32: &str = "0001020304050607 0769 2800 1000 2000 e3103e985884e987aaeb3091f107d4ad";
 
 /// .. and the others.
-const BYTES_64: &str = "2ae5ff4720f4c43459c3d0ff3a12650d";
+pub const BYTES_64: &str = "2ae5ff4720f4c43459c3d0ff3a12650d";
 
 const FILE: Digits = &[BYTES_0, BYTES_32, BYTES_64];
 

@@ -3,11 +3,11 @@
 use crate::JobEnd;
 use crate::JobMove::{Done, Failed, Over, Send, Wait};
 use crate::tests::image::{
-    AT_32, AT_64, AT_80, BYTES_0, BYTES_32, DIGEST, IMAGES, MATCHES, PART_AT_32, PART_AT_64, START,
-    upload,
+    AT_32, AT_64, AT_80, BYTES_0, BYTES_32, BYTES_64, DIGEST, IMAGES, MATCHES, PART_AT_32,
+    PART_AT_64, START, upload,
 };
 use crate::tests::rows::Row::{Hears, Quiet, Sends};
-use crate::tests::rows::{Row, first_wrong};
+use crate::tests::rows::{Digits, Row, first_wrong};
 use smp_model::Ending;
 use std::test::Fail;
 
@@ -151,6 +151,31 @@ const KEPT_IN_UNITS: [Row; 6] = [
     Hears("0b 00 000e 0001 02 01", MATCHES, Done),
 ];
 
+/// The whole file in its start: {"len": 80, "off": 0, "sha": DIGEST, "data": 80 bytes}, 137 bytes.
+const WHOLE: Digits = &[
+    "a4 63 6c656e 18 50  63 6f6666 00  63 736861 58 20",
+    DIGEST,
+    "64 64617461 58 50",
+    BYTES_0,
+    BYTES_32,
+    BYTES_64,
+];
+
+const AT_ONCE: [Row; 2] = [
+    Sends("0a 00 0089 0001 00 01", WHOLE),
+    Hears("0b 00 000e 0001 00 01", MATCHES, Done),
+];
+
+/// {"off": 80, "match": false}
+const MISMATCH_AT_ONCE: [Row; 2] = [
+    Sends("0a 00 0089 0001 00 01", WHOLE),
+    Hears(
+        "0b 00 000e 0001 00 01",
+        &["a2 63 6f6666 18 50  65 6d61746368 f4"],
+        Failed(JobEnd::Mismatch),
+    ),
+];
+
 /// An answer past the end, and one at 0, have the start sent anew.
 const BEGUN_ANEW: [Row; 10] = [
     Sends("0a 00 0059 0001 00 01", START),
@@ -236,10 +261,24 @@ fn uploads_an_image(rt: HostRuntime) -> Result<(), Fail> {
         let job = upload(alloc, 0, 32, Ending::Only)?;
         assert_eq!(rt; first_wrong(alloc, job, rows, printed)?, None, "{name}");
     }
-    let job = upload(alloc, 0, 36, Ending::Only)?;
-    assert_eq!(rt;
-        first_wrong(alloc, job, &KEPT_IN_UNITS, b"done 80\n")?,
-        None
-    );
+    for (name, chunk, rows, printed) in [
+        (
+            "kept in units",
+            36,
+            KEPT_IN_UNITS.as_slice(),
+            b"done 80\n".as_slice(),
+        ),
+        ("at once", 80, &AT_ONCE, b"done 80\n"),
+        (
+            "at once, chunks longer than the file",
+            1900,
+            &AT_ONCE,
+            b"done 80\n",
+        ),
+        ("mismatch at once", 80, &MISMATCH_AT_ONCE, b""),
+    ] {
+        let job = upload(alloc, 0, chunk, Ending::Only)?;
+        assert_eq!(rt; first_wrong(alloc, job, rows, printed)?, None, "{name}");
+    }
     Ok(())
 }
