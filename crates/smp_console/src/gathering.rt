@@ -4,7 +4,7 @@ ghost use Rattle.smp_console.specs.Frames.{collection, outcome_of, outcome_of_fi
 ghost use Rattle.smp_console.specs.Receiving.{TakesLine, Leaves, Waits, some_if, Sees};
 
 use crate::bytes::Bytes;
-use smp_line::{Line, crc16, read_line};
+use smp_line::{Line, crc16, is_next, read_line};
 use std::marker::Model;
 
 /// What collected bytes are.
@@ -142,6 +142,10 @@ impl Gathering {
     pub(crate) fn take_line(&mut self, line: &[u8]) -> bool
         ensures { TakesLine self.old self.new line.now result }
     {
+        // Where nothing was begun, it doesn't matter what would continue it.
+        if !self.is_begun && is_next(line) {
+            return false;
+        }
         match read_line(line, &mut self.bytes) {
             Line::First(count) => begin(
                 &mut self.collected,

@@ -1,15 +1,22 @@
-// Whole conversations of each job, with losses, repeats, refusals and answers that help nothing.
+// Whole conversations of each job, which stand in tables of a file each; and here the limits of jobs, and how they give up.
 
-ghost use Rattle.std.specs.Prelude.{◌≤◌};
-
-mod tables;
+mod echoes;
+mod gets;
+mod image;
+mod lists;
+mod marks;
+mod puts;
+mod rows;
+mod sets;
+mod uploads;
 
 use crate::{Job, JobEnd, JobFault, JobMove};
+use image::upload;
+use puts::{FILE, put};
 use smp_edge::Octets;
 use smp_model::{Ending, ImageFault, Pairs, Setting};
 use std::alloc::{AllocError, Global};
 use std::test::Fail;
-use tables::Line;
 
 /// The image of the bytes 00 to 07, of version 1.0.0.
 const IMAGE: [u8; 80] = [
@@ -20,133 +27,12 @@ const IMAGE: [u8; 80] = [
     0x2a, 0xe5, 0xff, 0x47, 0x20, 0xf4, 0xc4, 0x34, 0x59, 0xc3, 0xd0, 0xff, 0x3a, 0x12, 0x65, 0x0d,
 ];
 
-/// The hash that it states.
-const HASH: &str = "e3103e985884e987aaeb3091f107d4ad2ae5ff4720f4c43459c3d0ff3a12650d";
-
-/// How many turns go as the lines say.
-fn converse(alloc: Global, job: &mut Job, lines: &[Line]) -> Result<usize, Fail> {
-    for (i, line) in lines.iter().enumerate() {
-        let moved = match line.heard {
-            Some(digits) => {
-                let packet = hex::decode(alloc, digits)?;
-                job.hear(packet.as_slice())
-            }
-            None => job.quiet(),
-        };
-        let packet = hex::encode(alloc, job.packet())?;
-        if moved != line.moved || !packet.as_str().starts_with(line.sent) {
-            return Ok(i);
-        }
-    }
-    Ok(lines.len())
-}
-
-/// Whether a conversation goes as the lines say, and what the job prints then is this.
-fn ends_as(alloc: Global, mut job: Job, lines: &[Line], printed: &[u8]) -> Result<bool, Fail> {
-    if !job.result().is_empty() {
-        return Ok(false);
-    }
-    let turns = converse(alloc, &mut job, lines)?;
-    Ok(turns == lines.len() && job.result() == printed)
-}
-
-/// The upload of the image, in parts of so many bytes.
-fn upload(alloc: Global, image: u32, chunk: u32, ending: Ending) -> Result<Job, Fail>
-    requires image { image ≤ 1 }
-    requires least { 32 ≤ chunk }
-    requires most { chunk ≤ 1900 }
-{
-    Ok(Job::upload_to(
-        alloc,
-        image,
-        Octets::from_slice(alloc, &IMAGE)?,
-        chunk,
-        ending,
-    )?)
-}
-
 /// A setting.
 fn setting(alloc: Global, name: &[u8], val: &[u8]) -> Result<Setting, AllocError> {
     Ok(Setting {
         name: Octets::from_slice(alloc, name)?,
         val: Octets::from_slice(alloc, val)?,
     })
-}
-
-#[test]
-fn uploads_an_image(rt: HostRuntime) -> Result<(), Fail> {
-    let alloc = rt.alloc();
-    let only = upload(alloc, 0, 32, Ending::Only)?;
-    assert!(rt; ends_as(alloc, only, &tables::UPLOAD_ONLY, b"done 80\n")?);
-    let test = upload(alloc, 0, 32, Ending::Test)?;
-    assert!(rt; ends_as(alloc, test, &tables::UPLOAD_TEST, b"done 80\n")?);
-    let confirm = upload(alloc, 1, 32, Ending::Confirm)?;
-    assert!(rt; ends_as(alloc, confirm, &tables::UPLOAD_CONFIRM, b"done 80\n")?);
-    Ok(())
-}
-
-#[test]
-fn fails_to_upload_an_image(rt: HostRuntime) -> Result<(), Fail> {
-    let alloc = rt.alloc();
-    for lines in [
-        tables::MISMATCH_AT_THE_END.as_slice(),
-        tables::MISMATCH_WITHIN.as_slice(),
-        tables::MISMATCH_AT_THE_START.as_slice(),
-        tables::MISMATCH_PAST_THE_END.as_slice(),
-        tables::UPLOAD_REFUSED.as_slice(),
-        tables::UPLOAD_REFUSED_BY_PROTOCOL.as_slice(),
-        tables::MARK_REFUSED.as_slice(),
-    ] {
-        let mut job = upload(alloc, 0, 32, Ending::Test)?;
-        assert_eq!(rt; converse(alloc, &mut job, lines)?, lines.len());
-        assert!(rt; job.is_over());
-        assert!(rt; job.result().is_empty());
-    }
-    Ok(())
-}
-
-#[test]
-fn is_refused_where_its_image_is_not_there(rt: HostRuntime) -> Result<(), Fail> {
-    let alloc = rt.alloc();
-    let mut job = upload(alloc, 1, 32, Ending::Only)?;
-    assert_eq!(rt; converse(alloc, &mut job, &tables::NO_SUCH_IMAGE)?, 3);
-    assert!(rt; job.result().is_empty());
-    Ok(())
-}
-
-#[test]
-fn lists_images(rt: HostRuntime) -> Result<(), Fail> {
-    let alloc = rt.alloc();
-    let images = format!(in alloc;
-        "0 1.0.0 {HASH} bootable confirmed active\n1 2.1.3.4 abcd bootable pending permanent\n"
-    )?;
-    assert!(rt; ends_as(alloc, Job::list(alloc)?, &tables::LIST, images.as_bytes())?);
-    assert!(rt; ends_as(alloc, Job::list(alloc)?, &tables::LIST_NONE, b"")?);
-    assert!(rt; ends_as(alloc, Job::list(alloc)?, &tables::LIST_REFUSED, b"")?);
-    Ok(())
-}
-
-/// A job that writes `a` and `b/c`.
-fn set(alloc: Global) -> Result<Option<Job>, Fail> {
-    let mut pairs = Pairs::new(alloc);
-    pairs.push(setting(alloc, b"a", &[1])?)?;
-    pairs.push(setting(alloc, b"b/c", &[])?)?;
-    if !Job::can_set(&pairs) {
-        return Ok(None);
-    }
-    Ok(Some(Job::set(alloc, pairs)?))
-}
-
-#[test]
-fn writes_settings(rt: HostRuntime) -> Result<(), Fail> {
-    let alloc = rt.alloc();
-    let job = set(alloc)?.ok_or("no settings")?;
-    assert!(rt; ends_as(alloc, job, &tables::SET, b"saved\n")?);
-    let job = set(alloc)?.ok_or("no settings")?;
-    assert!(rt; ends_as(alloc, job, &tables::SET_REFUSED, b"")?);
-    let job = set(alloc)?.ok_or("no settings")?;
-    assert!(rt; ends_as(alloc, job, &tables::SAVE_REFUSED, b"")?);
-    Ok(())
 }
 
 #[test]
@@ -173,77 +59,6 @@ fn writes_no_settings_outside_the_limits(rt: HostRuntime) -> Result<(), Fail> {
     assert!(rt; Job::can_set(&pairs));
     pairs.push(setting(alloc, b"a", &[])?)?;
     assert!(rt; !Job::can_set(&pairs));
-    Ok(())
-}
-
-/// A file of 600 bytes.
-fn file(alloc: Global) -> Result<Octets, AllocError> {
-    let mut bytes = [0u8; 600];
-    let mut next = 0u8;
-    for byte in bytes.iter_mut() {
-        *byte = next;
-        next = next.wrapping_add(7);
-    }
-    Octets::from_slice(alloc, &bytes)
-}
-
-/// The writing of a file under the name `n`.
-fn put(alloc: Global, file: Octets) -> Result<Option<Job>, Fail> {
-    if file.as_slice().len() > 1000 {
-        return Ok(None);
-    }
-    Ok(Some(Job::put(alloc, "n", file)?))
-}
-
-#[test]
-fn writes_a_file(rt: HostRuntime) -> Result<(), Fail> {
-    let alloc = rt.alloc();
-    let job = put(alloc, file(alloc)?)?.ok_or("long")?;
-    assert!(rt; ends_as(alloc, job, &tables::PUT, b"stored 600\n")?);
-    let job = put(alloc, file(alloc)?)?.ok_or("long")?;
-    assert!(rt; ends_as(alloc, job, &tables::PUT_REFUSED, b"")?);
-    let job = put(alloc, Octets::from_slice(alloc, &[])?)?.ok_or("long")?;
-    assert!(rt; ends_as(alloc, job, &tables::PUT_EMPTY, b"stored 0\n")?);
-    Ok(())
-}
-
-#[test]
-fn reads_a_file(rt: HostRuntime) -> Result<(), Fail> {
-    let alloc = rt.alloc();
-    assert!(rt; ends_as(alloc, Job::get(alloc, "n")?, &tables::GET, b"abcde")?);
-    assert!(rt; ends_as(alloc, Job::get(alloc, "n")?, &tables::GET_EMPTY, b"")?);
-    assert!(rt;
-        ends_as(
-            alloc,
-            Job::get(alloc, "n")?,
-            &tables::GET_LATER_LENGTH,
-            b"ab"
-        )?
-    );
-    assert!(rt; ends_as(alloc, Job::get(alloc, "n")?, &tables::GET_REFUSED, b"")?);
-    Ok(())
-}
-
-#[test]
-fn has_a_text_echoed(rt: HostRuntime) -> Result<(), Fail> {
-    let alloc = rt.alloc();
-    assert!(rt; ends_as(alloc, Job::echo(alloc, "hi")?, &tables::ECHO, b"ho\n")?);
-    assert!(rt;
-        ends_as(
-            alloc,
-            Job::echo(alloc, "hi")?,
-            &tables::ECHO_IN_VERSION_1,
-            b"hi\n"
-        )?
-    );
-    assert!(rt;
-        ends_as(
-            alloc,
-            Job::echo(alloc, "hi")?,
-            &tables::ECHO_UNANSWERED,
-            b""
-        )?
-    );
     Ok(())
 }
 
@@ -311,9 +126,36 @@ fn stalls_in_an_upload(rt: HostRuntime) -> Result<(), Fail> {
 #[test]
 fn stalls_with_a_file(rt: HostRuntime) -> Result<(), Fail> {
     let alloc = rt.alloc();
-    let job = put(alloc, file(alloc)?)?.ok_or("long")?;
+    let job = put(alloc, "f", FILE)?;
     assert!(rt; stalls_after(alloc, job, &BEGIN, 512)?);
     assert!(rt; stalls_after(alloc, Job::get(alloc, "n")?, &ELSEWHERE, 512)?);
+    Ok(())
+}
+
+// The numbers go round after 255. Each answer is {"off": 1, "data": h''}, a part from elsewhere, and the 512th packet is the last.
+#[test]
+fn numbers_its_requests(rt: HostRuntime) -> Result<(), Fail> {
+    let alloc = rt.alloc();
+    let mut job = Job::get(alloc, "a")?;
+    for request in 0..512u32 {
+        let number = (request % 256) as u8;
+        // {"off": 0, "name": "a"}
+        let sent = [
+            8, 0, 0, 13, 0, 8, number, 0, 0xa2, 0x63, b'o', b'f', b'f', 0, 0x64, b'n', b'a', b'm',
+            b'e', 0x61, b'a',
+        ];
+        let heard = [
+            9, 0, 0, 12, 0, 8, number, 0, 0xa2, 0x63, b'o', b'f', b'f', 1, 0x64, b'd', b'a', b't',
+            b'a', 0x40,
+        ];
+        let due = if request < 511 {
+            JobMove::Send
+        } else {
+            JobMove::Failed(JobEnd::Stalled)
+        };
+        assert_eq!(rt; job.packet(), sent.as_slice(), "{request}");
+        assert_eq!(rt; job.hear(&heard), due, "{request}");
+    }
     Ok(())
 }
 

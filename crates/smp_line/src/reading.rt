@@ -1,10 +1,11 @@
 // A line of the console.
-ghost use Rattle.std.specs.Prelude.{◌≡◌, ◌≤◌, length, take, Some, None, MatchOption};
+ghost use Rattle.std.specs.Prelude.{◌≡◌, ◌≤◌, nat_eq, length, take, drop, Some, None, IsTrue, MatchOption};
+ghost use Rattle.std.specs.List.{starts_with};
 ghost use Rattle.std.specs.Io.BufRead.{strip_last};
 ghost use Rattle.std.specs.Result.{result_ok};
 ghost use Rattle.base64.specs.Engines.{standard};
 ghost use Rattle.base64.specs.GeneralPurpose.{decode_of};
-ghost use Rattle.smp_line.specs.Line.{content, spelled, Reads};
+ghost use Rattle.smp_line.specs.Line.{content, next, next_marker, spelled, with_bytes, Reads};
 
 use base64::engine::general_purpose::STANDARD;
 
@@ -69,6 +70,18 @@ fn read_text(text: &[u8], into: &mut [u8; 384]) -> Option<usize>
         return Some(0);
     }
     decode(symbols, into)
+}
+
+/// Whether a line has the marker of one that continues a packet. It is a `Next` or `Bad` then, and who has no packet to continue
+/// need not read it.
+pub fn is_next(line: &[u8]) -> bool
+    ensures marker { result ≡ starts_with nat_eq line.now next_marker }
+    ensures held { IsTrue result → content line.now ≡ with_bytes next (spelled (drop 2 line.now)) }
+{
+    match line {
+        [4, 20, ..] => true,
+        _ => false,
+    }
 }
 
 /// What a line holds, which is given without its newline. The bytes of a `First` or `Next`, 384 at most,
