@@ -4,7 +4,7 @@ ghost use Rattle.smp_console.specs.Frames.{collection, outcome_of, outcome_of_fi
 ghost use Rattle.smp_console.specs.Receiving.{TakesLine, Leaves, Waits, some_if, Sees};
 
 use crate::bytes::Bytes;
-use smp_line::{Line, crc16, is_next, read_line};
+use smp_line::{Line, LineReader, crc16, is_next};
 use std::marker::Model;
 
 /// What collected bytes are.
@@ -100,6 +100,7 @@ fn go_on(collected: &mut Bytes, is_begun: &mut bool, packet: &mut Bytes, bytes: 
 /// The bytes that were collected of a packet, and the last packet that was found.
 #[derive(Drop)]
 pub(crate) struct Gathering {
+    reader: LineReader,
     bytes: [u8; 384],
     collected: Bytes,
     is_begun: bool,
@@ -123,6 +124,7 @@ impl Gathering {
         ensures { result ≡ record { collected = None; packet = [] } }
     {
         Gathering {
+            reader: LineReader::new(),
             bytes: [0; 384],
             collected: Bytes::new(),
             is_begun: false,
@@ -146,7 +148,7 @@ impl Gathering {
         if !self.is_begun && is_next(line) {
             return false;
         }
-        match read_line(line, &mut self.bytes) {
+        match self.reader.read(line, &mut self.bytes) {
             Line::First(count) => begin(
                 &mut self.collected,
                 &mut self.is_begun,

@@ -16,6 +16,7 @@
 #![tactic(auto)]
 
 mod crc;
+mod decoding;
 mod laws;
 mod reading;
 mod writing;
@@ -25,7 +26,7 @@ pub use laws::{
     crc_is_unique, crc_is_worked_out, first_line_is_its_text, front_tells_content,
     next_line_is_its_text, text_has_no_newline, written_lines_are_read,
 };
-pub use reading::{Line, is_next, read_line};
+pub use reading::{Line, LineReader, is_next, read_line};
 pub use writing::write_line;
 
 #[cfg(test)]

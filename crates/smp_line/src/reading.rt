@@ -2,12 +2,9 @@
 ghost use Rattle.std.specs.Prelude.{◌≡◌, ◌≤◌, nat_eq, length, take, drop, Some, None, IsTrue, MatchOption};
 ghost use Rattle.std.specs.List.{starts_with};
 ghost use Rattle.std.specs.Io.BufRead.{strip_last};
-ghost use Rattle.std.specs.Result.{result_ok};
-ghost use Rattle.base64.specs.Engines.{standard};
-ghost use Rattle.base64.specs.GeneralPurpose.{decode_of};
 ghost use Rattle.smp_line.specs.Line.{content, next, next_marker, spelled, with_bytes, Reads};
 
-use base64::engine::general_purpose::STANDARD;
+use crate::decoding::Decoder;
 
 /// What a line holds.
 #[derive(Clone, Copy, Debug, PartialEq, Eq)]
@@ -39,22 +36,8 @@ fn without_return(text: &[u8]) -> &[u8]
     }
 }
 
-/// The bytes that symbols spell, at the front of `into`. It is a call of its own since the engine's
-/// tables are laid out at the beginning of a call that uses them.
-#[inline(never)]
-fn decode(symbols: &[u8], into: &mut [u8; 384]) -> Option<usize>
-    requires { length symbols.now ≤ 512 }
-    ensures { MatchOption result (result_ok (decode_of standard symbols.now) ≡ None)
-        (λ n. (result_ok (decode_of standard symbols.now) ≡ Some (take n into.new)) × (n ≤ 384)) }
-{
-    match STANDARD.decode_slice_unchecked(symbols, into) {
-        Ok(count) => Some(count),
-        Err(_) => None,
-    }
-}
-
 /// The bytes that the text after a marker spells, at the front of `into`.
-fn read_text(text: &[u8], into: &mut [u8; 384]) -> Option<usize>
+fn read_text(decoder: &Decoder, text: &[u8], into: &mut [u8; 384]) -> Option<usize>
     ensures { MatchOption result (spelled text.now ≡ None)
         (λ n. (spelled text.now ≡ Some (take n into.new)) × (n ≤ 384)) }
 {
@@ -69,7 +52,7 @@ fn read_text(text: &[u8], into: &mut [u8; 384]) -> Option<usize>
     if symbols.len() == 0 {
         return Some(0);
     }
-    decode(symbols, into)
+    decoder.decode(symbols, into)
 }
 
 /// Whether a line has the marker of one that continues a packet. It is a `Next` or `Bad` then, and who has no packet to continue
@@ -84,20 +67,42 @@ pub fn is_next(line: &[u8]) -> bool
     }
 }
 
-/// What a line holds, which is given without its newline. The bytes of a `First` or `Next`, 384 at most,
-/// are put at the front of `into`; what stands there after a `Bad` or `Foreign` means nothing.
+/// A reader of lines. It keeps the tables of base64, some 330 bytes; all readers read alike.
+#[derive(Drop)]
+pub struct LineReader {
+    decoder: Decoder,
+}
+
+impl LineReader {
+    /// A reader, which has read nothing: it never keeps anything of a line.
+    pub fn new() -> LineReader {
+        LineReader {
+            decoder: Decoder::new(),
+        }
+    }
+
+    /// What a line holds, which is given without its newline. The bytes of a `First` or `Next`, 384 at most,
+    /// are put at the front of `into`; what stands there after a `Bad` or `Foreign` means nothing.
+    pub fn read(&self, line: &[u8], into: &mut [u8; 384]) -> Line
+        ensures { Reads result into.new (content line.now) }
+    {
+        match line {
+            [6, 9, text @ ..] => match read_text(&self.decoder, text, into) {
+                Some(count) => Line::First(count),
+                None => Line::Bad,
+            },
+            [4, 20, text @ ..] => match read_text(&self.decoder, text, into) {
+                Some(count) => Line::Next(count),
+                None => Line::Bad,
+            },
+            _ => Line::Foreign,
+        }
+    }
+}
+
+/// What a line holds, as by a reader of its own ([`LineReader::read`]). Who reads many lines keeps a reader.
 pub fn read_line(line: &[u8], into: &mut [u8; 384]) -> Line
     ensures { Reads result into.new (content line.now) }
 {
-    match line {
-        [6, 9, text @ ..] => match read_text(text, into) {
-            Some(count) => Line::First(count),
-            None => Line::Bad,
-        },
-        [4, 20, text @ ..] => match read_text(text, into) {
-            Some(count) => Line::Next(count),
-            None => Line::Bad,
-        },
-        _ => Line::Foreign,
-    }
+    LineReader::new().read(line, into)
 }
