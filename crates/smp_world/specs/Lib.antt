@@ -10,3 +10,4 @@ pub mod UploadJobs
 pub mod SetJobs
 pub mod Deliveries
 pub mod Schedules
+pub mod Examples

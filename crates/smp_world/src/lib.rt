@@ -15,8 +15,13 @@
 //! are functions that do nothing.
 #![tactic(auto)]
 
+mod examples;
 mod laws;
 
+pub use examples::{
+    boots_for_example, clients_for_example, raw_packets_for_example, settings_for_example,
+    uploads_for_example,
+};
 pub use laws::{
     a_device_that_is_down_waits_for_a_boot, a_pending_slot_is_good_in_runs,
     a_pending_slot_stays_in_runs, acknowledged_bytes_stay, armed_troubles_strike_in_time,
