@@ -4,7 +4,7 @@ ghost use Rattle.smp_flash.specs.declared.arm.ArmKind.TheVariants.{Cut, Fail, Re
 ghost use Rattle.smp_flash.specs.declared.arm.Left.TheVariants.{Nothing};
 ghost use Rattle.smp_flash.specs.declared.region.Region.TheVariants.{Any, Settings};
 ghost use Rattle.smp_jobs.specs.Jobs.{echoes, gets, puts, sets};
-ghost use Rattle.smp_world.specs.Examples.{comes, printed, printed_of_two, some_sizes, text_of};
+ghost use Rattle.smp_world.specs.Examples.{Replays, comes, printed, printed_of_two, some_sizes, text_of};
 ghost use Rattle.smp_world.specs.Runs.{IsTranscript, arms, begins, boot, down, new, number, quiet, up};
 
 use smp_model::steps_need_the_flash;
@@ -160,3 +160,18 @@ pub fn clients_for_example()
         codes "up 2 reply 2 0900001400080000a3636f666600646461746143616263636c656e03" ∷
         codes "down 2 done" ∷ codes "end sent 2 answered 2 done 2" ∷ []) }
 {}
+
+/// A whole replay, from a schedule's text to its transcript: a client's save is cut before it took effect, and is sent again after the
+/// boot, when what ran is lost.
+pub fn a_replay_for_example()
+    ensures { Replays (text_of (codes "client 1 set a 01" ∷ codes "up new" ∷
+        codes "arm cut settings-gate 1 none" ∷ codes "down new" ∷ codes "up new" ∷ codes "boot" ∷
+        codes "quiet 1" ∷ codes "up new" ∷ codes "down new" ∷ []))
+        (text_of (codes "client 1 send 1" ∷ codes "up 1 reply 1 0b00000100030000a0" ∷
+        codes "arm" ∷ codes "down 1 send 2" ∷ codes "up 2 cut" ∷
+        codes "boot upload none pending none confirmed no saved 0100" ∷ codes "quiet 1 send 3" ∷
+        codes "up 3 reply 2 0b00000100030103a0" ∷ codes "down 2 done" ∷
+        codes "end sent 3 answered 2 done 1" ∷ [])) }
+{
+    steps_need_the_flash();
+}
