@@ -61,3 +61,4 @@ mod Consistency
 mod ToldReplays
 mod UnstruckMoments
 mod RunFronts
+mod StruckExamples

@@ -25,12 +25,12 @@ struck_reply kinds.Cut group = None
 struck_reply kinds.Fail group = Some (group_error group write_failed)
 struck_reply kinds.Read group = Some (group_error group read_failed)
 
-told_so : (k : ArmKind) (group : ℕ) → IsToldBy k group (struck_reply k group)
+pub told_so : (k : ArmKind) (group : ℕ) → IsToldBy k group (struck_reply k group)
 told_so kinds.Cut group = refl
 told_so kinds.Fail group = inl refl
 told_so kinds.Read group = refl
 
-struck_at_once : (sizes : Sizes) (h : Armed) (d : AbstractDevice) (m : Meant) → IsTrue (reaches sizes d h.region m) → (w : Went) × Goes sizes (Some h) d (Ok m) w
+abbrev struck_at_once : (sizes : Sizes) (h : Armed) (d : AbstractDevice) (m : Meant) → IsTrue (reaches sizes d h.region m) → (w : Went) × Goes sizes (Some h) d (Ok m) w
 struck_at_once sizes h d m r = (
   record { struck = true; taken = []; reply = struck_reply h.kind (group_of m); armed = None },
   inr (record {
@@ -48,7 +48,7 @@ struck_at_once sizes h d m r = (
 )
 
 -- all goes as without the trouble, which is no nearer then
-by_without : (sizes : Sizes) (h : Armed) (d : AbstractDevice) (mm : Result Meant ℕ) → (BringNearer h.region d (response_to sizes d mm).steps → ⊥) → (w : Went) × Goes sizes (Some h) d mm w
+abbrev by_without : (sizes : Sizes) (h : Armed) (d : AbstractDevice) (mm : Result Meant ℕ) → (BringNearer h.region d (response_to sizes d mm).steps → ⊥) → (w : Went) × Goes sizes (Some h) d mm w
 by_without sizes h d mm n = (
   record { struck = false; taken = (response_to sizes d mm).steps; reply = Some (response_to sizes d mm).reply; armed = Some h },
   inl (record {
@@ -64,53 +64,53 @@ by_without sizes h d mm n = (
   }),
 )
 
-going : StepsNeedFlash → (sizes : Sizes) (h : Option Armed) (d : AbstractDevice) (mm : Result Meant ℕ) → (w : Went) × Goes sizes h d mm w
+abbrev by_reach : StepsNeedFlash → (sizes : Sizes) (h : Armed) (d : AbstractDevice) (m : Meant) (b : Bool) → reaches sizes d h.region m ≡ b → (w : Went) × Goes sizes (Some h) d (Ok m) w
+by_reach law sizes h d m true e = struck_at_once sizes h d m e
+by_reach law sizes h d m false e = by_without sizes h d (Ok m) (unreached law sizes h.region d m e)
+
+abbrev going : StepsNeedFlash → (sizes : Sizes) (h : Option Armed) (d : AbstractDevice) (mm : Result Meant ℕ) → (w : Went) × Goes sizes h d mm w
 going law sizes None d mm = (
   record { struck = false; taken = (response_to sizes d mm).steps; reply = Some (response_to sizes d mm).reply; armed = None },
   inl (record { calm = refl; taken = refl; reply = refl; stays = tt }),
 )
 going law sizes (Some h) d (Err number) = by_without sizes h d (Err number) (nothing_nearer h.region d)
-going law sizes (Some h) d (Ok m) = by_reach (reaches sizes d h.region m) refl
-  where
-    by_reach : (b : Bool) → reaches sizes d h.region m ≡ b → (w : Went) × Goes sizes (Some h) d (Ok m) w
-    by_reach true e = struck_at_once sizes h d m e
-    by_reach false e = by_without sizes h d (Ok m) (unreached law sizes h.region d m e)
+going law sizes (Some h) d (Ok m) = by_reach law sizes h d m (reaches sizes d h.region m) refl
 
-booting : (h : Option Armed) (d : AbstractDevice) → (b : Booted) × Boots h d b
+abbrev booting : (h : Option Armed) (d : AbstractDevice) → (b : Booted) × Boots h d b
 booting None d = (record { ended = is_up; taken = settle_steps d; armed = None }, inl (record { ended = refl; taken = refl; stays = tt }))
 booting (Some h) d = (record { ended = ended_by h.kind; taken = []; armed = None }, inr (record { arm = h; was = refl; ended = refl; rest = settle_steps d; split = refl; gone = refl }))
 
-boots_after : (is : Bool) (h : Option Armed) (d : AbstractDevice) → (b : Option Booted) × BootsAfter is h d b
+abbrev boots_after : (is : Bool) (h : Option Armed) (d : AbstractDevice) → (b : Option Booted) × BootsAfter is h d b
 boots_after true h d = let b = booting h d in (Some b.0, b.1)
 boots_after false h d = (None, tt)
 
-coming : StepsNeedFlash → (sizes : Sizes) (h : Option Armed) (d : AbstractDevice) (mm : Result Meant ℕ) → (c : Came) × Comes sizes h d mm c
+abbrev coming : StepsNeedFlash → (sizes : Sizes) (h : Option Armed) (d : AbstractDevice) (mm : Result Meant ℕ) → (c : Came) × Comes sizes h d mm c
 coming law sizes h d mm =
     let w = going law sizes h d mm in
     let b = boots_after (is_reset mm) w.0.armed (after_going w.0 d) in
     (record { went = w.0; boot = b.0 }, record { goes = w.1; boots = b.1 })
 
-message_possible : StepsNeedFlash → (sizes : Sizes) (is : Bool) (s : State) (m : Message) → (out : Moment) × RawMessage sizes is s m out
+abbrev message_possible : StepsNeedFlash → (sizes : Sizes) (is : Bool) (s : State) (m : Message) → (out : Moment) × RawMessage sizes is s m out
 message_possible law sizes true s m = let c = coming law sizes s.armed s.device (meaning m) in (_, (c.0, c.1, refl))
 message_possible law sizes false s m = (_, refl)
 
-packet_possible : StepsNeedFlash → (sizes : Sizes) (s : State) (m : Option Message) → (out : Moment) × RawPacket sizes s m out
+abbrev packet_possible : StepsNeedFlash → (sizes : Sizes) (s : State) (m : Option Message) → (out : Moment) × RawPacket sizes s m out
 packet_possible law sizes s None = (_, refl)
 packet_possible law sizes s (Some m) = message_possible law sizes (is_request m) s m
 
-raw_possible : StepsNeedFlash → (sizes : Sizes) (is : Bool) (s : State) (bytes : List ℕ) → (out : Moment) × RawComes sizes is s bytes out
+abbrev raw_possible : StepsNeedFlash → (sizes : Sizes) (is : Bool) (s : State) (bytes : List ℕ) → (out : Moment) × RawComes sizes is s bytes out
 raw_possible law sizes true s bytes = packet_possible law sizes s (packet bytes)
 raw_possible law sizes false s bytes = (_, refl)
 
-up_possible : StepsNeedFlash → (sizes : Sizes) (is : Bool) (s : State) (n : ℕ) (p : Mail) → (out : Moment) × UpComes sizes is s n p out
+abbrev up_possible : StepsNeedFlash → (sizes : Sizes) (is : Bool) (s : State) (n : ℕ) (p : Mail) → (out : Moment) × UpComes sizes is s n p out
 up_possible law sizes true s n p = let c = coming law sizes s.armed s.device (meaning p.message) in (_, (c.0, c.1, refl))
 up_possible law sizes false s n p = (_, refl)
 
-named_possible : StepsNeedFlash → (sizes : Sizes) (s : State) (n : ℕ) (p : Option Mail) → (out : Moment) × UpNamed sizes s n p out
+abbrev named_possible : StepsNeedFlash → (sizes : Sizes) (s : State) (n : ℕ) (p : Option Mail) → (out : Moment) × UpNamed sizes s n p out
 named_possible law sizes s n None = (_, refl)
 named_possible law sizes s n (Some p) = up_possible law sizes s.up s n p
 
-pub possible : StepsNeedFlash → (sizes : Sizes) (s : State) (e : Event) → (out : Moment) × Happens sizes s e out
+abbrev pub possible : StepsNeedFlash → (sizes : Sizes) (s : State) (e : Event) → (out : Moment) × Happens sizes s e out
 possible law sizes s (begins job) = (_, refl)
 possible law sizes s (raw bytes) = raw_possible law sizes s.up s bytes
 possible law sizes s (up which) = named_possible law sizes s (number_of s.packets which) (nth s.packets (number_of s.packets which))
@@ -120,7 +120,7 @@ possible law sizes s (arms arm) = (_, refl)
 possible law sizes s boot = let b = booting s.armed s.device in (_, (b.0, b.1, refl))
 
 -- every run goes on to the end of its events
-pub some_run : StepsNeedFlash → (sizes : Sizes) (s : State) (events : List Event) → (moments : List Moment) × IsRun sizes s events moments
+abbrev pub some_run : StepsNeedFlash → (sizes : Sizes) (s : State) (events : List Event) → (moments : List Moment) × IsRun sizes s events moments
 some_run law sizes s [] = ([], tt)
 some_run law sizes s (e ∷ events) =
     let p = possible law sizes s e in

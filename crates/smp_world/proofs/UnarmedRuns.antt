@@ -1,5 +1,5 @@
 -- While nothing is armed, what comes of each event is a function of the state.
-use Rattle.std.proofs.Common.{◌≡◌, inl, inr, ℕ, List, [], ◌∷◌, Bool, true, false, Option, Some, None, Result, refl, ap, ◌∙◌}
+use Rattle.std.proofs.Common.{◌≡◌, inl, inr, ℕ, List, [], ◌∷◌, Bool, true, false, Option, Some, None, Result, refl, ap, subst, ◌∙◌}
 use Rattle.smp_header.specs.Message.{Message, packet}
 use Rattle.smp_model.specs.declared.device.AbstractDevice.{AbstractDevice}
 use Rattle.smp_model.specs.declared.device.Sizes.{Sizes}
@@ -15,6 +15,8 @@ use Rattle.smp_world.specs.Laws.{NoArms}
 use Rattle.smp_world.specs.Unarmed.{plain_going, plain_boot, plain_boot_if, plain_coming, raw_message, raw_packet, raw_bytes, up_mail, up_named, unarmed_moment, unarmed_moments}
 use Rattle.smp_world.specs.Runs.{Event, begins, raw, up, down, quiet, arms, boot, Mail, State, Moment, nth, number_of, Happens, Run as IsRun, RawMessage, RawPacket, RawComes, UpComes, UpNamed, moment_of, raw_fate, up_fate, state_after, state_after_up, moment_booted, state_booted}
 use Rattle.smp_world.proofs.Arming.{none_left, event_passes}
+use Rattle.smp_world.specs.Below.{StepsNeedFlash}
+use Rattle.smp_world.proofs.Possible.{some_run}
 
 unarmed : (d : AbstractDevice) (steps : List Step) (a c : Option Armed) → a ≡ None → StaysArmed d steps a c → c ≡ None
 unarmed d steps a c e s = none_left d steps a c e (inr s)
@@ -97,3 +99,9 @@ unarmed_one sizes s (v ∷ events) (m ∷ ms) e n r =
     ap (λ (x : List Moment). m ∷ x) rest ∙ ap (λ (x : Moment). x ∷ unarmed_moments sizes x.state events) same
 unarmed_one sizes s [] (m ∷ ms) e n r = absurd r
 unarmed_one sizes s (v ∷ events) [] e n r = absurd r
+
+-- and they are a run
+pub unarmed_run : StepsNeedFlash → (sizes : Sizes) (s : State) (events : List Event) → s.armed ≡ None → NoArms events → IsRun sizes s events (unarmed_moments sizes s events)
+unarmed_run law sizes s events e n =
+    let some = some_run law sizes s events in
+    subst (IsRun sizes s events) (unarmed_one sizes s events some.0 e n some.1) some.1

@@ -1,8 +1,13 @@
 //! Worked examples: the transcripts of short lists of events. They were worked out by hand.
-ghost use Rattle.std.specs.Prelude.{◌≡◌, ◌∷◌, [], codes};
+ghost use Rattle.std.specs.Prelude.{◌≡◌, ◌∷◌, [], None, codes};
+ghost use Rattle.smp_flash.specs.declared.arm.ArmKind.TheVariants.{Cut, Fail, Read};
+ghost use Rattle.smp_flash.specs.declared.arm.Left.TheVariants.{Nothing};
+ghost use Rattle.smp_flash.specs.declared.region.Region.TheVariants.{Any, Settings};
 ghost use Rattle.smp_jobs.specs.Jobs.{echoes, gets, puts, sets};
-ghost use Rattle.smp_world.specs.Examples.{comes, printed, printed_of_two, text_of};
-ghost use Rattle.smp_world.specs.Runs.{begins, boot, down, new, number, quiet, up};
+ghost use Rattle.smp_world.specs.Examples.{Replays, comes, printed, printed_of_two, some_sizes, text_of};
+ghost use Rattle.smp_world.specs.Runs.{IsTranscript, arms, begins, boot, down, new, number, quiet, up};
+
+use smp_model::steps_need_the_flash;
 
 /// Raw bytes: an echo in either version; a map of no stated length; a group that is not there; a key that comes twice; version bits
 /// that are not known; no packets and no requests; the parameters of the device; and what was counted.
@@ -94,6 +99,34 @@ pub fn boots_for_example()
         codes "end sent 0 answered 0 done 0" ∷ []) }
 {}
 
+/// What is armed strikes: a save is cut before it took effect, and it fails so; a boot fails, and the next one does not. These are
+/// some of the runs of these events: a save that is cut may have taken effect.
+pub fn struck_runs_for_example()
+    ensures cut { IsTranscript some_sizes [] None (
+        arms (record { kind = Cut; region = Any; after = 1; left = Nothing }) ∷
+        comes (codes "0a00000e00030800a2646e616d6561616376616c4101") ∷
+        comes (codes "0a00000100030903a0") ∷ comes (codes "0200000600000100a16164626869") ∷
+        boot ∷ [])
+        (text_of (codes "arm" ∷ codes "raw 0b00000100030800a0" ∷ codes "raw cut" ∷
+        codes "raw down" ∷ codes "boot upload none pending none confirmed no saved 0100" ∷
+        codes "end sent 0 answered 0 done 0" ∷ [])) }
+    ensures failed { IsTranscript some_sizes [] None (
+        arms (record { kind = Fail; region = Settings; after = 1; left = Nothing }) ∷
+        comes (codes "0a00000e00030800a2646e616d6561616376616c4101") ∷
+        comes (codes "0a00000100030903a0") ∷ boot ∷ [])
+        (text_of (codes "arm" ∷ codes "raw 0b00000100030800a0" ∷
+        codes "raw 0b00001100030903a163657272a26567726f7570036272630c" ∷
+        codes "boot upload none pending none confirmed no saved 0100" ∷
+        codes "end sent 0 answered 0 done 0" ∷ [])) }
+    ensures boot_fault { IsTranscript some_sizes [] None (
+        arms (record { kind = Read; region = Any; after = 1; left = Nothing }) ∷ boot ∷ boot ∷ [])
+        (text_of (codes "arm" ∷ codes "boot fault" ∷
+        codes "boot upload none pending none confirmed no saved 0100" ∷
+        codes "end sent 0 answered 0 done 0" ∷ [])) }
+{
+    steps_need_the_flash();
+}
+
 /// Clients: an echo, whose reply comes twice; one that hears nothing and sends nine times; one that writes a setting; a file that is
 /// put, and got by another client.
 pub fn clients_for_example()
@@ -127,3 +160,18 @@ pub fn clients_for_example()
         codes "up 2 reply 2 0900001400080000a3636f666600646461746143616263636c656e03" ∷
         codes "down 2 done" ∷ codes "end sent 2 answered 2 done 2" ∷ []) }
 {}
+
+/// A whole replay, from a schedule's text to its transcript: a client's save is cut before it took effect, and is sent again after the
+/// boot, when what ran is lost.
+pub fn a_replay_for_example()
+    ensures { Replays (text_of (codes "client 1 set a 01" ∷ codes "up new" ∷
+        codes "arm cut settings-gate 1 none" ∷ codes "down new" ∷ codes "up new" ∷ codes "boot" ∷
+        codes "quiet 1" ∷ codes "up new" ∷ codes "down new" ∷ []))
+        (text_of (codes "client 1 send 1" ∷ codes "up 1 reply 1 0b00000100030000a0" ∷
+        codes "arm" ∷ codes "down 1 send 2" ∷ codes "up 2 cut" ∷
+        codes "boot upload none pending none confirmed no saved 0100" ∷ codes "quiet 1 send 3" ∷
+        codes "up 3 reply 2 0b00000100030103a0" ∷ codes "down 2 done" ∷
+        codes "end sent 3 answered 2 done 1" ∷ [])) }
+{
+    steps_need_the_flash();
+}

@@ -229,7 +229,7 @@ pub fn fronts_of_runs_are_runs()
     steps_need_the_flash();
 }
 
-/// Where nothing is armed, the moments of a run are a function of its events. At raw bytes the device does what the
+/// Where nothing is armed, the moments of a run are a function of its events, and what that function gives is a run. At raw bytes the device does what the
 /// abstract device does with them.
 pub fn unarmed_runs_are_functions()
     ensures handled { (sizes : FlashSizes) (s : State) (bytes : List ℕ)
@@ -238,7 +238,12 @@ pub fn unarmed_runs_are_functions()
     ensures moments { (sizes : FlashSizes) (s : State) (events : List Event) (moments : List Moment)
         → s.armed ≡ None → NoArms events → Run sizes s events moments
         → moments ≡ unarmed_moments sizes s events }
-{}
+    ensures run { (sizes : FlashSizes) (s : State) (events : List Event)
+        → s.armed ≡ None → NoArms events
+        → Run sizes s events (unarmed_moments sizes s events) }
+{
+    steps_need_the_flash();
+}
 
 /// In a run without raw bytes, of a schedule in which two upload jobs with one digest have one file: at each place, the
 /// bytes that were accepted of an upload that announced a digest are a front of the file of the jobs with that digest, to

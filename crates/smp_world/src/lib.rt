@@ -19,8 +19,8 @@ mod examples;
 mod laws;
 
 pub use examples::{
-    boots_for_example, clients_for_example, raw_packets_for_example, settings_for_example,
-    uploads_for_example,
+    a_replay_for_example, boots_for_example, clients_for_example, raw_packets_for_example,
+    settings_for_example, struck_runs_for_example, uploads_for_example,
 };
 pub use laws::{
     a_device_that_is_down_waits_for_a_boot, a_pending_slot_is_good_in_runs,
