@@ -19,3 +19,4 @@ pub mod ServingFiles
 pub mod Starts
 pub mod Beginnings
 pub mod Answered
+pub mod FormattedSide
