@@ -20,3 +20,4 @@ pub mod Starts
 pub mod Beginnings
 pub mod Answered
 pub mod FormattedSide
+pub mod FormattedDevice
