@@ -1,3 +1,4 @@
+use Rattle.std.proofs.lemmas.Result.{err_from_is_err_and}
 use Rattle.std.proofs.lemmas.Result.{on_ok_weaker}
 use Rattle.smp_device.proofs.FormattedDevice.{all_calls, all_erased, both_fresh, first_fresh, second_erased, two_calls, two_stand}
 use Rattle.smp_device.proofs.formatting.write_two.Goals as goal
@@ -10,7 +11,8 @@ write_image-requires-2-clause-erased g c = second_erased c.args.first.now c.args
 
 pub returns-in_err-write_image-2-clause-calls : goal.returns-in_err-write_image-2-clause-calls
 returns-in_err-write_image-2-clause-calls g c =
-    two_calls c.args.first.now c.args.second.now c.requires.same c.requires.zero c.requires.one c.args.one.now _ _ _ _ c.in_ok-write_image.ensures.calls c.in_err-write_image-2.ensures.calls
+    let p = err_from_is_err_and c.from_residual-in_err-write_image-2.result c.from_residual-in_err-write_image-2.ensures.1 in
+    rw (p.1, p.2) (two_calls c.args.first.now c.args.second.now c.requires.same c.requires.zero c.requires.one c.args.one.now _ _ _ _ c.in_ok-write_image.ensures.calls c.in_err-write_image-2.ensures.calls)
 
 pub write_settings-requires-clause-erased : goal.write_settings-requires-clause-erased
 write_settings-requires-clause-erased g c =
