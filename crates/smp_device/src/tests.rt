@@ -12,7 +12,7 @@ use crate::showing::Shown;
 use arrayvec::ArrayVec;
 use sha2::{Digest, Sha256};
 use smp_flash::{Arm, ArmKind, Flash, Geometry, Layout, Left, MemFlash, Operation, Region};
-use smp_gate::Bank;
+use smp_gate::{Bank, banks_fit};
 use smp_header::PacketBuffer;
 use smp_model::{Announcement, ImageFault, Mark, Version, make_image};
 use smp_upload::UploadFault;
@@ -656,4 +656,525 @@ fn tags_tell_files_apart(rt: HostRuntime) -> Result<(), Fail> {
         ],
     );
     Ok(())
+}
+
+/// A part whose write is cut is stored when it comes again, also where a start is cut as well.
+#[test]
+fn a_cut_part_is_sent_again(rt: HostRuntime) -> Result<(), Fail> {
+    let alloc = rt.alloc();
+    let file = image_of(alloc, 2, 1928)?;
+    let bytes = file.as_slice();
+    let digest = Sha256::digest(bytes);
+    let first = start(alloc, 0, 2000, &digest, piece(bytes, 0, 480))?;
+    let next = part(alloc, 0, 480, Some(&digest), piece(bytes, 480, 960))?;
+    let third = part(alloc, 0, 960, Some(&digest), piece(bytes, 960, 1440))?;
+    let (first, next, third) = (first.as_slice(), next.as_slice(), third.as_slice());
+    let at_480 = packet(alloc, 0x0b, 1, 1, b"\xa1\x63off\x19\x01\xe0")?;
+    let at_960 = packet(alloc, 0x0b, 1, 1, b"\xa1\x63off\x19\x03\xc0")?;
+    let (at_480, at_960) = (at_480.as_slice(), at_960.as_slice());
+    let half = Event::Boot(received(2000, digest, 480), &NONE_SAVED);
+    let more = Event::Boot(received(2000, digest, 960), &NONE_SAVED);
+    let begun = Event::Asks(first, at_480);
+    let again = Event::Asks(next, at_960);
+    let slot = cut(Region::Slot1, 1, Left::Whole);
+    let torn = cut(Region::Slot1, 1, Left::Seed(7));
+    let scratch = cut(Region::Scratch, 1, Left::Seed(7));
+    let gate = cut(Region::ProgressGate, 1, Left::Nothing);
+    let whole = cut(Region::ProgressGate, 1, Left::Whole);
+    let second = cut(Region::ProgressGate, 2, Left::Nothing);
+    let off = Event::Fails(UploadFault::Off);
+    let rows: [&[Event]; 6] = [
+        &[begun, slot, Event::Cut(next), half, again],
+        &[begun, slot, Event::Cut(next), torn, off, half, again],
+        &[begun, slot, Event::Cut(next), scratch, off, half, again],
+        &[begun, gate, Event::Cut(next), half, again],
+        &[begun, whole, Event::Cut(next), more, again],
+        &[begun, second, again, Event::Cut(third), more],
+    ];
+    for row in rows {
+        let mut flash = one_image(alloc)?;
+        follow(&rt, alloc, ONE, &mut flash, row);
+    }
+    Ok(())
+}
+
+/// A read that fails breaks a start off, and the next one goes through.
+#[test]
+fn a_start_is_tried_again(rt: HostRuntime) -> Result<(), Fail> {
+    let mut flash = one_image(rt.alloc())?;
+    follow(
+        &rt,
+        rt.alloc(),
+        ONE,
+        &mut flash,
+        &[
+            Event::Armed(Arm {
+                kind: ArmKind::Read,
+                region: Region::Any,
+                after: 1,
+                left: Left::Nothing,
+            }),
+            Event::Fails(UploadFault::Fault(Operation::Read)),
+            Event::Boot(NOTHING, &NONE_SAVED),
+        ],
+    );
+    Ok(())
+}
+
+// Marks.
+
+/// The start and the parts of the image of 1000 bytes, which is then whole.
+fn new_image(alloc: Global) -> Result<[Vec<u8>; 3], AllocError> {
+    let file = image_of(alloc, 2, 928)?;
+    let bytes = file.as_slice();
+    let digest = Sha256::digest(bytes);
+    Ok([
+        start(alloc, 0, 1000, &digest, piece(bytes, 0, 480))?,
+        part(alloc, 0, 480, Some(&digest), piece(bytes, 480, 960))?,
+        part(alloc, 0, 960, Some(&digest), piece(bytes, 960, 1000))?,
+    ])
+}
+
+/// An image that is pending is marked once, and nothing changes it.
+#[test]
+fn a_pending_image_stays(rt: HostRuntime) -> Result<(), Fail> {
+    let alloc = rt.alloc();
+    let [first, next, last] = new_image(alloc)?;
+    let at_480 = offset(alloc, 480)?;
+    let at_960 = offset(alloc, 960)?;
+    let whole = matched(alloc, 1000, true)?;
+    let at_1000 = offset(alloc, 1000)?;
+    let test = set(alloc, &NEW_HASH, false)?;
+    let confirm = set(alloc, &NEW_HASH, true)?;
+    let both = list(alloc, &[active(None, false), pending(None, 2, &NEW_HASH)])?;
+    let already = error(alloc, 1, 0, 28)?;
+    let file = file_of(alloc, 300, 0)?;
+    let other = start(alloc, 0, 300, &[0; 32], piece(file.as_slice(), 0, 100))?;
+    let busy = error(alloc, 1, 1, 9)?;
+    let erase_1 = erase(alloc, 1)?;
+    let erase_0 = erase(alloc, 0)?;
+    let no_erase = error(alloc, 1, 5, 9)?;
+    let no_slot = error(alloc, 1, 5, 14)?;
+    let mut flash = one_image(alloc)?;
+    follow(
+        &rt,
+        alloc,
+        ONE,
+        &mut flash,
+        &[
+            Event::Asks(first.as_slice(), at_480.as_slice()),
+            Event::Asks(next.as_slice(), at_960.as_slice()),
+            Event::Asks(last.as_slice(), whole.as_slice()),
+            Event::Asks(test.as_slice(), both.as_slice()),
+            Event::Still(test.as_slice(), both.as_slice()),
+            Event::Still(confirm.as_slice(), already.as_slice()),
+            Event::Still(other.as_slice(), busy.as_slice()),
+            Event::Still(erase_1.as_slice(), no_erase.as_slice()),
+            Event::Still(erase_0.as_slice(), no_slot.as_slice()),
+            Event::Still(first.as_slice(), at_1000.as_slice()),
+        ],
+    );
+    Ok(())
+}
+
+/// A mark that is cut is set or not, as its last write was made or not.
+#[test]
+fn a_cut_mark_is_set_or_not(rt: HostRuntime) -> Result<(), Fail> {
+    let alloc = rt.alloc();
+    let [first, next, last] = new_image(alloc)?;
+    let at_480 = offset(alloc, 480)?;
+    let at_960 = offset(alloc, 960)?;
+    let whole = matched(alloc, 1000, true)?;
+    let test = set(alloc, &NEW_HASH, false)?;
+    let confirm = set(alloc, &NEW_HASH, true)?;
+    let both = list(alloc, &[active(None, false), pending(None, 2, &NEW_HASH)])?;
+    let file = image_of(alloc, 2, 928)?;
+    let unmarked = received(1000, Sha256::digest(file.as_slice()), 1000);
+    let marked = Shown {
+        pending: Some(Mark::Permanent),
+        ..unmarked
+    };
+    let begun = [
+        Event::Asks(first.as_slice(), at_480.as_slice()),
+        Event::Asks(next.as_slice(), at_960.as_slice()),
+        Event::Asks(last.as_slice(), whole.as_slice()),
+    ];
+    let [one, two, three] = begun;
+    let mut flash = one_image(alloc)?;
+    follow(
+        &rt,
+        alloc,
+        ONE,
+        &mut flash,
+        &[
+            one,
+            two,
+            three,
+            cut(Region::Slot1, 2, Left::Nothing),
+            Event::Cut(confirm.as_slice()),
+            Event::Boot(unmarked, &NONE_SAVED),
+            Event::Asks(test.as_slice(), both.as_slice()),
+        ],
+    );
+    let mut flash = one_image(alloc)?;
+    follow(
+        &rt,
+        alloc,
+        ONE,
+        &mut flash,
+        &[
+            one,
+            two,
+            three,
+            cut(Region::Slot1, 2, Left::Whole),
+            Event::Cut(confirm.as_slice()),
+            Event::Boot(marked, &NONE_SAVED),
+        ],
+    );
+    Ok(())
+}
+
+/// A hash of no bytes, or null, means the image that runs.
+#[test]
+fn no_hash_confirms_the_active_image(rt: HostRuntime) -> Result<(), Fail> {
+    let alloc = rt.alloc();
+    let empty = set(alloc, &[], true)?;
+    let null = packet(alloc, 0x0a, 1, 0, b"\xa2\x64hash\xf6\x67confirm\xf5")?;
+    let alone = list(alloc, &[active(None, true)])?;
+    let mut flash = one_image(alloc)?;
+    follow(
+        &rt,
+        alloc,
+        ONE,
+        &mut flash,
+        &[
+            Event::Asks(empty.as_slice(), alone.as_slice()),
+            Event::Still(null.as_slice(), alone.as_slice()),
+            Event::Boot(
+                Shown {
+                    confirmed: true,
+                    ..NOTHING
+                },
+                &NONE_SAVED,
+            ),
+        ],
+    );
+    Ok(())
+}
+
+// Two images.
+
+/// Slots 1 and 3 are erased where they are there.
+#[test]
+fn a_slot_that_is_there_is_erased(rt: HostRuntime) -> Result<(), Fail> {
+    let erase: [u8; 15] = *b"\x0a\x00\x00\x07\x00\x01\x00\x05\xa1\x64slot\x03";
+    let done: [u8; 9] = *b"\x0b\x00\x00\x01\x00\x01\x00\x05\xa0";
+    let refused: [u8; 25] =
+        *b"\x0b\x00\x00\x11\x00\x01\x00\x05\xa1\x63err\xa2\x65group\x01\x62rc\x0e";
+    let mut flash = two_images(rt.alloc())?;
+    follow(
+        &rt,
+        rt.alloc(),
+        TWO,
+        &mut flash,
+        &[Event::Still(&erase, &done)],
+    );
+    let mut flash = one_image(rt.alloc())?;
+    follow(
+        &rt,
+        rt.alloc(),
+        ONE,
+        &mut flash,
+        &[Event::Still(&erase, &refused)],
+    );
+    Ok(())
+}
+
+/// An upload to image 1 leaves what is pending of image 0.
+#[test]
+fn both_images_are_pending(rt: HostRuntime) -> Result<(), Fail> {
+    let alloc = rt.alloc();
+    let [first, next, last] = new_image(alloc)?;
+    let at_480 = offset(alloc, 480)?;
+    let at_960 = offset(alloc, 960)?;
+    let whole = matched(alloc, 1000, true)?;
+    let test = set(alloc, &NEW_HASH, false)?;
+    let zero = [active(Some(0), false), pending(Some(0), 2, &NEW_HASH)];
+    let [running, waiting] = zero;
+    let one = list(alloc, &[running, waiting, active(Some(1), false)])?;
+    let file = image_of(alloc, 3, 128)?;
+    let bytes = file.as_slice();
+    let digest = Sha256::digest(bytes);
+    let second = start(alloc, 1, 200, &digest, piece(bytes, 0, 200))?;
+    let stored = matched(alloc, 200, true)?;
+    let other = set(alloc, &OTHER_HASH, false)?;
+    let both = list(
+        alloc,
+        &[
+            running,
+            waiting,
+            active(Some(1), false),
+            pending(Some(1), 3, &OTHER_HASH),
+        ],
+    )?;
+    let resumed = offset(alloc, 1000)?;
+    let mut flash = two_images(alloc)?;
+    follow(
+        &rt,
+        alloc,
+        TWO,
+        &mut flash,
+        &[
+            Event::Asks(first.as_slice(), at_480.as_slice()),
+            Event::Asks(next.as_slice(), at_960.as_slice()),
+            Event::Asks(last.as_slice(), whole.as_slice()),
+            Event::Asks(test.as_slice(), one.as_slice()),
+            Event::Asks(second.as_slice(), stored.as_slice()),
+            Event::Asks(other.as_slice(), both.as_slice()),
+            Event::Still(first.as_slice(), resumed.as_slice()),
+            Event::Boot(
+                Shown {
+                    pending: Some(Mark::Test),
+                    ..received(
+                        1000,
+                        Sha256::digest(image_of(alloc, 2, 928)?.as_slice()),
+                        1000,
+                    )
+                },
+                &NONE_SAVED,
+            ),
+        ],
+    );
+    Ok(())
+}
+
+/// Puts a record of version 1 into the progress bank: of an upload of 2000 bytes without a digest, of which 480 were accepted.
+fn put_old_record(flash: &mut MemFlash, layout: &Layout) -> bool
+    requires { geometry_of layout.now ≡ (mem_state flash.old).geometry }
+{
+    banks_fit();
+    let mut record = [0u8; 48];
+    record[0] = 1;
+    record[1] = 1;
+    record[6] = 7;
+    record[7] = 0xd0;
+    record[10] = 1;
+    record[11] = 0xe0;
+    let mut body = ArrayVec::new();
+    match Bank::open(flash, layout.progress(), 8, &mut body) {
+        Ok(bank) => {
+            let mut bank = bank;
+            bank.replace(flash, &record).is_ok()
+        }
+        Err(_) => false,
+    }
+}
+
+/// The first two bytes of the body of the progress bank.
+fn body_of(flash: &mut MemFlash, layout: &Layout) -> Option<(u8, u8)>
+    requires { geometry_of layout.now ≡ (mem_state flash.old).geometry }
+{
+    banks_fit();
+    let mut body = ArrayVec::new();
+    match Bank::open(flash, layout.progress(), 8, &mut body) {
+        Ok(_) => {
+            let bytes = body.as_slice();
+            if bytes.len() < 2 {
+                return None;
+            }
+            Some((bytes[0], bytes[1]))
+        }
+        Err(_) => None,
+    }
+}
+
+/// A record of version 1 is read, and the next one is of version 2.
+#[test]
+fn an_old_record_is_read_and_replaced(rt: HostRuntime) -> Result<(), Fail> {
+    let alloc = rt.alloc();
+    let layout = Layout::of(ONE);
+    let mut flash = one_image(alloc)?;
+    if flash.geometry() != ONE {
+        return Ok(());
+    }
+    assert!(rt; put_old_record(&mut flash, &layout));
+    let file = file_of(alloc, 300, 0)?;
+    let bytes = file.as_slice();
+    let other = start(alloc, 0, 300, &Sha256::digest(bytes), piece(bytes, 0, 100))?;
+    let begun = offset(alloc, 96)?;
+    let old = Shown {
+        upload: Some((
+            Announcement {
+                length: 2000,
+                digest: None,
+            },
+            480,
+        )),
+        ..NOTHING
+    };
+    follow(
+        &rt,
+        alloc,
+        ONE,
+        &mut flash,
+        &[
+            Event::Boot(old, &NONE_SAVED),
+            Event::Asks(other.as_slice(), begun.as_slice()),
+        ],
+    );
+    if flash.geometry() == ONE {
+        assert_eq!(rt; body_of(&mut flash, &layout), Some((2, 1)));
+    }
+    Ok(())
+}
+
+// Settings and files.
+
+/// A setting runs when it is written, and stays when it is saved.
+#[test]
+fn settings_stay_when_they_are_saved(rt: HostRuntime) -> Result<(), Fail> {
+    let write: [u8; 22] = *b"\x0a\x00\x00\x0e\x00\x03\x08\x00\xa2\x64name\x61a\x63val\x41\x01";
+    let written: [u8; 9] = *b"\x0b\x00\x00\x01\x00\x03\x08\x00\xa0";
+    let read: [u8; 16] = *b"\x08\x00\x00\x08\x00\x03\x0a\x00\xa1\x64name\x61a";
+    let missing: [u8; 25] =
+        *b"\x09\x00\x00\x11\x00\x03\x0a\x00\xa1\x63err\xa2\x65group\x03\x62rc\x03";
+    let save: [u8; 9] = *b"\x0a\x00\x00\x01\x00\x03\x09\x03\xa0";
+    let saved: [u8; 9] = *b"\x0b\x00\x00\x01\x00\x03\x09\x03\xa0";
+    let found: [u8; 15] = *b"\x09\x00\x00\x07\x00\x03\x0a\x00\xa1\x63val\x41\x01";
+    let mut flash = one_image(rt.alloc())?;
+    follow(
+        &rt,
+        rt.alloc(),
+        ONE,
+        &mut flash,
+        &[
+            Event::Still(&write, &written),
+            Event::Boot(NOTHING, &NONE_SAVED),
+            Event::Still(&read, &missing),
+            Event::Still(&write, &written),
+            Event::Asks(&save, &saved),
+            Event::Still(&save, &saved),
+            Event::Boot(NOTHING, &[1, 1, 1, b'a', 1, 1]),
+            Event::Still(&read, &found),
+        ],
+    );
+    Ok(())
+}
+
+/// A packet after another to one device, each answered by the same reply, and then one that is answered by another.
+fn fills(
+    rt: &impl Abort,
+    alloc: Global,
+    packets: &[Vec<u8>],
+    reply: &[u8],
+    last: &[u8],
+    refused: &[u8],
+) -> Result<(), Fail> {
+    let mut events = Vec::new(alloc);
+    for packet in packets {
+        events.push(Event::Still(packet.as_slice(), reply))?;
+    }
+    events.push(Event::Still(last, refused))?;
+    let mut flash = one_image(alloc)?;
+    follow(rt, alloc, ONE, &mut flash, events.as_slice());
+    Ok(())
+}
+
+/// Settings have limits.
+#[test]
+fn settings_are_refused_by_their_limits(rt: HostRuntime) -> Result<(), Fail> {
+    let alloc = rt.alloc();
+    let written = packet(alloc, 0x0b, 3, 0, &[0xa0])?;
+    let full = error(alloc, 3, 0, 65)?;
+    let mut short = Vec::new(alloc);
+    let mut long = Vec::new(alloc);
+    for n in 0..32u8 {
+        short.push(write_setting(alloc, &[b'a', b'A' + n], &[])?)?;
+    }
+    for n in 0..18u8 {
+        let mut name = [b'n'; 32];
+        name[0] = b'A' + n;
+        long.push(write_setting(alloc, &name, &[7; 128])?)?;
+    }
+    let next = write_setting(alloc, b"zz", &[])?;
+    let large = write_setting(alloc, &[b'z'; 32], &[7; 128])?;
+    let (written, full) = (written.as_slice(), full.as_slice());
+    fills(&rt, alloc, short.as_slice(), written, next.as_slice(), full)?;
+    fills(&rt, alloc, long.as_slice(), written, large.as_slice(), full)?;
+    let value = error(alloc, 3, 0, 64)?;
+    let name = error(alloc, 3, 0, 2)?;
+    let long_value = write_setting(alloc, b"a", &[7; 129])?;
+    let long_name = write_setting(alloc, &[b'z'; 33], &[7])?;
+    let none = [];
+    fills(
+        &rt,
+        alloc,
+        &none,
+        written,
+        long_value.as_slice(),
+        value.as_slice(),
+    )?;
+    fills(
+        &rt,
+        alloc,
+        &none,
+        written,
+        long_name.as_slice(),
+        name.as_slice(),
+    )
+}
+
+/// A file is told until the device is started again. There are eight, of at most 16384 bytes.
+#[test]
+fn files_are_told(rt: HostRuntime) -> Result<(), Fail> {
+    let alloc = rt.alloc();
+    let write: [u8; 35] =
+        *b"\x0a\x00\x00\x1b\x00\x08\x00\x00\xa4\x63off\x00\x64data\x43abc\x63len\x03\x64name\x61a";
+    let stored: [u8; 14] = *b"\x0b\x00\x00\x06\x00\x08\x00\x00\xa1\x63off\x03";
+    let ask = packet(alloc, 0x08, 8, 2, b"\xa1\x64name\x61a")?;
+    let mut data = Vec::new(alloc);
+    data.extend_from_slice(b"\xa3\x64type\x66sha256\x63len\x03\x66output")?;
+    put_bytes(&mut data, &ABC_HASH)?;
+    let hash = packet(alloc, 0x09, 8, 2, data.as_slice())?;
+    let status = packet(alloc, 0x08, 8, 1, b"\xa1\x64name\x61a")?;
+    let gone = packet(alloc, 0x09, 8, 1, b"\xa1\x63err\xa2\x65group\x08\x62rc\x03")?;
+    let mut flash = one_image(alloc)?;
+    follow(
+        &rt,
+        alloc,
+        ONE,
+        &mut flash,
+        &[
+            Event::Still(&write, &stored),
+            Event::Still(ask.as_slice(), hash.as_slice()),
+            Event::Boot(NOTHING, &NONE_SAVED),
+            Event::Still(status.as_slice(), gone.as_slice()),
+        ],
+    );
+    let offset = packet(alloc, 0x0b, 8, 0, b"\xa1\x63off\x03")?;
+    let mut eight = Vec::new(alloc);
+    for n in 0..8u8 {
+        eight.push(write_file(alloc, b'A' + n, 3)?)?;
+    }
+    let ninth = write_file(alloc, b'z', 3)?;
+    let no_free = error(alloc, 8, 0, 64)?;
+    let long = write_file(alloc, b'z', 16385)?;
+    let too_long = error(alloc, 8, 0, 65)?;
+    let offset = offset.as_slice();
+    fills(
+        &rt,
+        alloc,
+        eight.as_slice(),
+        offset,
+        ninth.as_slice(),
+        no_free.as_slice(),
+    )?;
+    fills(
+        &rt,
+        alloc,
+        &[],
+        offset,
+        long.as_slice(),
+        too_long.as_slice(),
+    )
 }
