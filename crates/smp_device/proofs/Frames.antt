@@ -52,7 +52,7 @@ settings_clear g p are =
 
 -- And the regions of each image clear of the settings bank.
 
-apart_zero : (l : Layout) → image_of l ≡ 0 → Apart l (bank_spots (settings_of l))
+pub apart_zero : (l : Layout) → image_of l ≡ 0 → Apart l (bank_spots (settings_of l))
 apart_zero l e =
     let s = first_start l e in
     record {
@@ -63,7 +63,7 @@ apart_zero l e =
       scratch = (inl (omega (arith, s)), (inl (omega (arith, s)), tt));
     }
 
-apart_one : (first l : Layout) → geometry_of l ≡ geometry_of first → image_of l ≡ 1 → Apart l (bank_spots (settings_of first))
+pub apart_one : (first l : Layout) → geometry_of l ≡ geometry_of first → image_of l ≡ 1 → Apart l (bank_spots (settings_of first))
 apart_one first l g e =
     let s = second_start l e in
     let f : first_size (geometry_of l) ≡ first_size (geometry_of first) = ap first_size g in

@@ -19,3 +19,5 @@ pub mod ServingFiles
 pub mod Starts
 pub mod Beginnings
 pub mod Answered
+pub mod FormattedSide
+pub mod FormattedDevice

@@ -11,6 +11,7 @@
 
 mod answering;
 mod device;
+mod formatting;
 mod hashes;
 mod images;
 mod laws;
@@ -22,10 +23,13 @@ mod showing;
 mod side_requests;
 mod starting;
 mod telling;
+#[cfg(test)]
+mod tests;
 mod uploads;
 
 pub use answering::{Down, Handled};
 pub use device::{Device, OpenFault};
+pub use formatting::{FormatFault, format, format_two};
 pub use hashes::set;
 pub use images::{Images, Replied, SideRequest};
 pub use lists::list;
