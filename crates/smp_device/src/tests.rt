@@ -1,6 +1,8 @@
 // What no clause says: whole devices over flashes in memory, packet by packet. The bytes of packets and replies are written out from
 // the formats, and the hashes were worked out by a program of its own.
-ghost use Rattle.std.specs.Prelude.{◌≡◌, IfOk, IfSome};
+ghost use Rattle.std.specs.Prelude.{◌≡◌, ◌≤◌, length, IfOk, IfSome, IsTrue};
+ghost use Rattle.smp_flash.specs.Area.{blank};
+ghost use Rattle.smp_flash.specs.Geometry.{is_lawful, size_of};
 ghost use Rattle.smp_flash.specs.Layout.{geometry_of};
 ghost use Rattle.smp_flash.specs.Memory.{mem_state};
 ghost use Rattle.smp_device.specs.Handling.{DeviceSays};
@@ -100,16 +102,27 @@ fn file_of(alloc: Global, size: usize, seed: u8) -> Bytes {
 }
 
 /// The bytes from one place to another, where they are there.
-fn piece(bytes: &[u8], from: usize, to: usize) -> &[u8] {
+fn piece(bytes: &[u8], from: usize, to: usize) -> &[u8]
+    ensures { length result.now ≤ to }
+{
     if from > to || to > bytes.len() {
         return &[];
     }
     &bytes[from..to]
 }
 
+/// A flash of these sizes that is all FF.
+fn erased(alloc: Global, geometry: Geometry) -> Result<MemFlash, AllocError>
+    requires { IsTrue (is_lawful geometry) }
+    ensures sizes { IfOk result (λ flash. (mem_state flash).geometry ≡ geometry) }
+    ensures erased { IfOk result (λ flash. IfSome (mem_state flash).bytes (λ held. held ≡ blank (size_of (mem_state flash).geometry))) }
+{
+    MemFlash::new(alloc, geometry)
+}
+
 /// A flash of one image, formatted with the default image.
 fn one_image(alloc: Global) -> Result<MemFlash, AllocError> {
-    let mut flash = MemFlash::new(alloc, ONE)?;
+    let mut flash = erased(alloc, ONE)?;
     let image = default_image(alloc)?;
     let _ = format(&mut flash, piece(image.as_slice(), 0, 80));
     Ok(flash)
@@ -117,7 +130,7 @@ fn one_image(alloc: Global) -> Result<MemFlash, AllocError> {
 
 /// A flash of two images, both the default image.
 fn two_images(alloc: Global) -> Result<MemFlash, AllocError> {
-    let mut flash = MemFlash::new(alloc, TWO)?;
+    let mut flash = erased(alloc, TWO)?;
     let image = default_image(alloc)?;
     let bytes = piece(image.as_slice(), 0, 80);
     let _ = format_two(&mut flash, bytes, bytes);
@@ -541,7 +554,7 @@ fn only_images_that_fit_are_formatted(rt: HostRuntime) -> Result<(), Fail> {
         (good, most, Ok(())),
     ];
     for (first, second, result) in rows {
-        let mut flash = MemFlash::new(alloc, small)?;
+        let mut flash = erased(alloc, small)?;
         let wanted = match result {
             Ok(()) => Ok(()),
             Err(fault) => Err(FormatFault::BadImage(fault)),
@@ -680,7 +693,7 @@ struct Parts {
     at_960: Vec<u8>,
 }
 
-fn parts(alloc: Global) -> Result<Parts, AllocError> {
+fn sent_parts(alloc: Global) -> Result<Parts, AllocError> {
     let file = image_of(alloc, 2, 1928)?;
     let bytes = file.as_slice();
     let digest = Sha256::digest(bytes);
@@ -698,7 +711,7 @@ fn parts(alloc: Global) -> Result<Parts, AllocError> {
 #[test]
 fn a_cut_part_is_sent_again(rt: HostRuntime) -> Result<(), Fail> {
     let alloc = rt.alloc();
-    let sent = parts(alloc)?;
+    let sent = sent_parts(alloc)?;
     for (region, left, off) in [
         (Region::Slot1, Left::Whole, 480),
         (Region::ProgressGate, Left::Nothing, 480),
@@ -726,7 +739,7 @@ fn a_cut_part_is_sent_again(rt: HostRuntime) -> Result<(), Fail> {
 #[test]
 fn a_cut_rescue_is_made_again(rt: HostRuntime) -> Result<(), Fail> {
     let alloc = rt.alloc();
-    let sent = parts(alloc)?;
+    let sent = sent_parts(alloc)?;
     for region in [Region::Slot1, Region::Scratch] {
         let mut flash = one_image(alloc)?;
         follow(
@@ -752,7 +765,7 @@ fn a_cut_rescue_is_made_again(rt: HostRuntime) -> Result<(), Fail> {
 #[test]
 fn the_second_gate_is_cut(rt: HostRuntime) -> Result<(), Fail> {
     let alloc = rt.alloc();
-    let sent = parts(alloc)?;
+    let sent = sent_parts(alloc)?;
     let mut flash = one_image(alloc)?;
     follow(
         &rt,
