@@ -1,6 +1,8 @@
 // What no clause says: whole devices over flashes in memory, packet by packet. The bytes of packets and replies are written out from
 // the formats, and the hashes were worked out by a program of its own.
-ghost use Rattle.std.specs.Prelude.{◌≡◌, IfOk, IfSome};
+ghost use Rattle.std.specs.Prelude.{◌≡◌, ◌≤◌, length, IfOk, IfSome, IsTrue};
+ghost use Rattle.smp_flash.specs.Area.{blank};
+ghost use Rattle.smp_flash.specs.Geometry.{is_lawful, size_of};
 ghost use Rattle.smp_flash.specs.Layout.{geometry_of};
 ghost use Rattle.smp_flash.specs.Memory.{mem_state};
 ghost use Rattle.smp_device.specs.Handling.{DeviceSays};
@@ -100,16 +102,27 @@ fn file_of(alloc: Global, size: usize, seed: u8) -> Bytes {
 }
 
 /// The bytes from one place to another, where they are there.
-fn piece(bytes: &[u8], from: usize, to: usize) -> &[u8] {
+fn piece(bytes: &[u8], from: usize, to: usize) -> &[u8]
+    ensures { length result.now ≤ to }
+{
     if from > to || to > bytes.len() {
         return &[];
     }
     &bytes[from..to]
 }
 
+/// A flash of these sizes that is all FF.
+fn erased(alloc: Global, geometry: Geometry) -> Result<MemFlash, AllocError>
+    requires { IsTrue (is_lawful geometry) }
+    ensures sizes { IfOk result (λ flash. (mem_state flash).geometry ≡ geometry) }
+    ensures erased { IfOk result (λ flash. IfSome (mem_state flash).bytes (λ held. held ≡ blank (size_of (mem_state flash).geometry))) }
+{
+    MemFlash::new(alloc, geometry)
+}
+
 /// A flash of one image, formatted with the default image.
 fn one_image(alloc: Global) -> Result<MemFlash, AllocError> {
-    let mut flash = MemFlash::new(alloc, ONE)?;
+    let mut flash = erased(alloc, ONE)?;
     let image = default_image(alloc)?;
     let _ = format(&mut flash, piece(image.as_slice(), 0, 80));
     Ok(flash)
@@ -117,7 +130,7 @@ fn one_image(alloc: Global) -> Result<MemFlash, AllocError> {
 
 /// A flash of two images, both the default image.
 fn two_images(alloc: Global) -> Result<MemFlash, AllocError> {
-    let mut flash = MemFlash::new(alloc, TWO)?;
+    let mut flash = erased(alloc, TWO)?;
     let image = default_image(alloc)?;
     let bytes = piece(image.as_slice(), 0, 80);
     let _ = format_two(&mut flash, bytes, bytes);
@@ -541,7 +554,7 @@ fn only_images_that_fit_are_formatted(rt: HostRuntime) -> Result<(), Fail> {
         (good, most, Ok(())),
     ];
     for (first, second, result) in rows {
-        let mut flash = MemFlash::new(alloc, small)?;
+        let mut flash = erased(alloc, small)?;
         let wanted = match result {
             Ok(()) => Ok(()),
             Err(fault) => Err(FormatFault::BadImage(fault)),
@@ -570,7 +583,7 @@ fn an_erased_flash_is_unformatted(rt: HostRuntime) -> Result<(), Fail> {
 
 // Uploads.
 
-/// A start and a part are answered by what is held, whatever comes again. A wrong digest gives the upload up.
+/// A start and a part are answered by what is held, whatever comes again.
 #[test]
 fn an_upload_is_answered_by_what_is_held(rt: HostRuntime) -> Result<(), Fail> {
     let alloc = rt.alloc();
@@ -600,6 +613,17 @@ fn an_upload_is_answered_by_what_is_held(rt: HostRuntime) -> Result<(), Fail> {
             Event::Still(more.as_slice(), past.as_slice()),
         ],
     );
+    Ok(())
+}
+
+/// A wrong digest gives the upload up.
+#[test]
+fn a_wrong_digest_gives_the_upload_up(rt: HostRuntime) -> Result<(), Fail> {
+    let alloc = rt.alloc();
+    let file = file_of(alloc, 300, 0)?;
+    let bytes = file.as_slice();
+    let last = part(alloc, 0, 96, None, piece(bytes, 96, 300))?;
+    let begun = offset(alloc, 96)?;
     let zeros = start(alloc, 0, 300, &[0; 32], piece(bytes, 0, 100))?;
     let wrong = matched(alloc, 300, false)?;
     let none = offset(alloc, 0)?;
@@ -658,43 +682,104 @@ fn tags_tell_files_apart(rt: HostRuntime) -> Result<(), Fail> {
     Ok(())
 }
 
-/// A part whose write is cut is stored when it comes again, also where a start is cut as well.
-#[test]
-fn a_cut_part_is_sent_again(rt: HostRuntime) -> Result<(), Fail> {
-    let alloc = rt.alloc();
+/// The start and two parts of an upload of 2000 bytes, its digest, and the replies with offsets 480 and 960.
+#[derive(Drop)]
+struct Parts {
+    first: Vec<u8>,
+    next: Vec<u8>,
+    third: Vec<u8>,
+    digest: [u8; 32],
+    at_480: Vec<u8>,
+    at_960: Vec<u8>,
+}
+
+fn sent_parts(alloc: Global) -> Result<Parts, AllocError> {
     let file = image_of(alloc, 2, 1928)?;
     let bytes = file.as_slice();
     let digest = Sha256::digest(bytes);
-    let first = start(alloc, 0, 2000, &digest, piece(bytes, 0, 480))?;
-    let next = part(alloc, 0, 480, Some(&digest), piece(bytes, 480, 960))?;
-    let third = part(alloc, 0, 960, Some(&digest), piece(bytes, 960, 1440))?;
-    let (first, next, third) = (first.as_slice(), next.as_slice(), third.as_slice());
-    let at_480 = packet(alloc, 0x0b, 1, 1, b"\xa1\x63off\x19\x01\xe0")?;
-    let at_960 = packet(alloc, 0x0b, 1, 1, b"\xa1\x63off\x19\x03\xc0")?;
-    let (at_480, at_960) = (at_480.as_slice(), at_960.as_slice());
-    let half = Event::Boot(received(2000, digest, 480), &NONE_SAVED);
-    let more = Event::Boot(received(2000, digest, 960), &NONE_SAVED);
-    let begun = Event::Asks(first, at_480);
-    let again = Event::Asks(next, at_960);
-    let slot = cut(Region::Slot1, 1, Left::Whole);
-    let torn = cut(Region::Slot1, 1, Left::Seed(7));
-    let scratch = cut(Region::Scratch, 1, Left::Seed(7));
-    let gate = cut(Region::ProgressGate, 1, Left::Nothing);
-    let whole = cut(Region::ProgressGate, 1, Left::Whole);
-    let second = cut(Region::ProgressGate, 2, Left::Nothing);
-    let off = Event::Fails(UploadFault::Off);
-    let rows: [&[Event]; 6] = [
-        &[begun, slot, Event::Cut(next), half, again],
-        &[begun, slot, Event::Cut(next), torn, off, half, again],
-        &[begun, slot, Event::Cut(next), scratch, off, half, again],
-        &[begun, gate, Event::Cut(next), half, again],
-        &[begun, whole, Event::Cut(next), more, again],
-        &[begun, second, again, Event::Cut(third), more],
-    ];
-    for row in rows {
+    Ok(Parts {
+        first: start(alloc, 0, 2000, &digest, piece(bytes, 0, 480))?,
+        next: part(alloc, 0, 480, Some(&digest), piece(bytes, 480, 960))?,
+        third: part(alloc, 0, 960, Some(&digest), piece(bytes, 960, 1440))?,
+        digest,
+        at_480: packet(alloc, 0x0b, 1, 1, b"\xa1\x63off\x19\x01\xe0")?,
+        at_960: packet(alloc, 0x0b, 1, 1, b"\xa1\x63off\x19\x03\xc0")?,
+    })
+}
+
+/// A part that is cut is stored when it comes again, unless it was stored whole.
+#[test]
+fn a_cut_part_is_sent_again(rt: HostRuntime) -> Result<(), Fail> {
+    let alloc = rt.alloc();
+    let sent = sent_parts(alloc)?;
+    for (region, left, off) in [
+        (Region::Slot1, Left::Whole, 480),
+        (Region::ProgressGate, Left::Nothing, 480),
+        (Region::ProgressGate, Left::Whole, 960),
+    ] {
         let mut flash = one_image(alloc)?;
-        follow(&rt, alloc, ONE, &mut flash, row);
+        follow(
+            &rt,
+            alloc,
+            ONE,
+            &mut flash,
+            &[
+                Event::Asks(sent.first.as_slice(), sent.at_480.as_slice()),
+                cut(region, 1, left),
+                Event::Cut(sent.next.as_slice()),
+                Event::Boot(received(2000, sent.digest, off), &NONE_SAVED),
+                Event::Asks(sent.next.as_slice(), sent.at_960.as_slice()),
+            ],
+        );
     }
+    Ok(())
+}
+
+/// Also where the start that rescues it is cut.
+#[test]
+fn a_cut_rescue_is_made_again(rt: HostRuntime) -> Result<(), Fail> {
+    let alloc = rt.alloc();
+    let sent = sent_parts(alloc)?;
+    for region in [Region::Slot1, Region::Scratch] {
+        let mut flash = one_image(alloc)?;
+        follow(
+            &rt,
+            alloc,
+            ONE,
+            &mut flash,
+            &[
+                Event::Asks(sent.first.as_slice(), sent.at_480.as_slice()),
+                cut(Region::Slot1, 1, Left::Whole),
+                Event::Cut(sent.next.as_slice()),
+                cut(region, 1, Left::Seed(7)),
+                Event::Fails(UploadFault::Off),
+                Event::Boot(received(2000, sent.digest, 480), &NONE_SAVED),
+                Event::Asks(sent.next.as_slice(), sent.at_960.as_slice()),
+            ],
+        );
+    }
+    Ok(())
+}
+
+/// The second gate from then on is that of the part after the next one.
+#[test]
+fn the_second_gate_is_cut(rt: HostRuntime) -> Result<(), Fail> {
+    let alloc = rt.alloc();
+    let sent = sent_parts(alloc)?;
+    let mut flash = one_image(alloc)?;
+    follow(
+        &rt,
+        alloc,
+        ONE,
+        &mut flash,
+        &[
+            Event::Asks(sent.first.as_slice(), sent.at_480.as_slice()),
+            cut(Region::ProgressGate, 2, Left::Nothing),
+            Event::Asks(sent.next.as_slice(), sent.at_960.as_slice()),
+            Event::Cut(sent.third.as_slice()),
+            Event::Boot(received(2000, sent.digest, 960), &NONE_SAVED),
+        ],
+    );
     Ok(())
 }
 
@@ -777,9 +862,9 @@ fn a_pending_image_stays(rt: HostRuntime) -> Result<(), Fail> {
     Ok(())
 }
 
-/// A mark that is cut is set or not, as its last write was made or not.
+/// A mark that is cut is not set where its last write wasn't made.
 #[test]
-fn a_cut_mark_is_set_or_not(rt: HostRuntime) -> Result<(), Fail> {
+fn a_cut_mark_is_not_set(rt: HostRuntime) -> Result<(), Fail> {
     let alloc = rt.alloc();
     let [first, next, last] = new_image(alloc)?;
     let at_480 = offset(alloc, 480)?;
@@ -790,16 +875,6 @@ fn a_cut_mark_is_set_or_not(rt: HostRuntime) -> Result<(), Fail> {
     let both = list(alloc, &[active(None, false), pending(None, 2, &NEW_HASH)])?;
     let file = image_of(alloc, 2, 928)?;
     let unmarked = received(1000, Sha256::digest(file.as_slice()), 1000);
-    let marked = Shown {
-        pending: Some(Mark::Permanent),
-        ..unmarked
-    };
-    let begun = [
-        Event::Asks(first.as_slice(), at_480.as_slice()),
-        Event::Asks(next.as_slice(), at_960.as_slice()),
-        Event::Asks(last.as_slice(), whole.as_slice()),
-    ];
-    let [one, two, three] = begun;
     let mut flash = one_image(alloc)?;
     follow(
         &rt,
@@ -807,15 +882,32 @@ fn a_cut_mark_is_set_or_not(rt: HostRuntime) -> Result<(), Fail> {
         ONE,
         &mut flash,
         &[
-            one,
-            two,
-            three,
+            Event::Asks(first.as_slice(), at_480.as_slice()),
+            Event::Asks(next.as_slice(), at_960.as_slice()),
+            Event::Asks(last.as_slice(), whole.as_slice()),
             cut(Region::Slot1, 2, Left::Nothing),
             Event::Cut(confirm.as_slice()),
             Event::Boot(unmarked, &NONE_SAVED),
             Event::Asks(test.as_slice(), both.as_slice()),
         ],
     );
+    Ok(())
+}
+
+/// It is set where that was made.
+#[test]
+fn a_cut_mark_is_set(rt: HostRuntime) -> Result<(), Fail> {
+    let alloc = rt.alloc();
+    let [first, next, last] = new_image(alloc)?;
+    let at_480 = offset(alloc, 480)?;
+    let at_960 = offset(alloc, 960)?;
+    let whole = matched(alloc, 1000, true)?;
+    let confirm = set(alloc, &NEW_HASH, true)?;
+    let file = image_of(alloc, 2, 928)?;
+    let marked = Shown {
+        pending: Some(Mark::Permanent),
+        ..received(1000, Sha256::digest(file.as_slice()), 1000)
+    };
     let mut flash = one_image(alloc)?;
     follow(
         &rt,
@@ -823,9 +915,9 @@ fn a_cut_mark_is_set_or_not(rt: HostRuntime) -> Result<(), Fail> {
         ONE,
         &mut flash,
         &[
-            one,
-            two,
-            three,
+            Event::Asks(first.as_slice(), at_480.as_slice()),
+            Event::Asks(next.as_slice(), at_960.as_slice()),
+            Event::Asks(last.as_slice(), whole.as_slice()),
             cut(Region::Slot1, 2, Left::Whole),
             Event::Cut(confirm.as_slice()),
             Event::Boot(marked, &NONE_SAVED),
@@ -864,13 +956,11 @@ fn no_hash_confirms_the_active_image(rt: HostRuntime) -> Result<(), Fail> {
 
 // Two images.
 
-/// Slots 1 and 3 are erased where they are there.
+/// Slot 3 is erased where there are two images.
 #[test]
-fn a_slot_that_is_there_is_erased(rt: HostRuntime) -> Result<(), Fail> {
+fn slot_3_of_two_images_is_erased(rt: HostRuntime) -> Result<(), Fail> {
     let erase: [u8; 15] = *b"\x0a\x00\x00\x07\x00\x01\x00\x05\xa1\x64slot\x03";
     let done: [u8; 9] = *b"\x0b\x00\x00\x01\x00\x01\x00\x05\xa0";
-    let refused: [u8; 25] =
-        *b"\x0b\x00\x00\x11\x00\x01\x00\x05\xa1\x63err\xa2\x65group\x01\x62rc\x0e";
     let mut flash = two_images(rt.alloc())?;
     follow(
         &rt,
@@ -879,6 +969,14 @@ fn a_slot_that_is_there_is_erased(rt: HostRuntime) -> Result<(), Fail> {
         &mut flash,
         &[Event::Still(&erase, &done)],
     );
+    Ok(())
+}
+
+#[test]
+fn one_image_has_no_slot_3(rt: HostRuntime) -> Result<(), Fail> {
+    let erase: [u8; 15] = *b"\x0a\x00\x00\x07\x00\x01\x00\x05\xa1\x64slot\x03";
+    let refused: [u8; 25] =
+        *b"\x0b\x00\x00\x11\x00\x01\x00\x05\xa1\x63err\xa2\x65group\x01\x62rc\x0e";
     let mut flash = one_image(rt.alloc())?;
     follow(
         &rt,
@@ -1062,13 +1160,13 @@ fn settings_stay_when_they_are_saved(rt: HostRuntime) -> Result<(), Fail> {
 }
 
 /// A packet after another to one device, each answered by the same reply, and then one that is answered by another.
-fn fills(
+fn fills<'a>(
     rt: &impl Abort,
     alloc: Global,
-    packets: &[Vec<u8>],
-    reply: &[u8],
-    last: &[u8],
-    refused: &[u8],
+    packets: &'a [Vec<u8>],
+    reply: &'a [u8],
+    last: &'a [u8],
+    refused: &'a [u8],
 ) -> Result<(), Fail> {
     let mut events = Vec::new(alloc);
     for packet in packets {
