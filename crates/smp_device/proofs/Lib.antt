@@ -11,6 +11,7 @@ pub mod Listings
 pub mod Acting
 pub mod Hashing
 pub mod Frames
+pub mod Nearer
 pub mod ServingImages
 pub mod ServingQuietly
 pub mod ToldReplies
