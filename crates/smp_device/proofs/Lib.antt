@@ -20,3 +20,7 @@ pub mod ServingFiles
 pub mod Starts
 pub mod Beginnings
 pub mod Answered
+pub mod Strikes
+pub mod Reaching
+pub mod PacketsGo
+pub mod BootsGo

@@ -7,6 +7,7 @@ use Rattle.smp_flash.specs.State.{FlashState}
 use Rattle.smp_flash.specs.declared.layout.Layout.{Layout}
 use Rattle.smp_flash.specs.declared.region.Region.{Region}
 use Rattle.smp_flash.specs.declared.region.Region.TheVariants as regions
+use Rattle.smp_flash.proofs.Passing.{Smaller-then, then_Smaller}
 use Rattle.smp_model.specs.declared.device.AbstractDevice.{AbstractDevice}
 use Rattle.smp_model.specs.declared.device.Side.{Side}
 use Rattle.smp_model.specs.declared.device.Sizes.{Sizes}
@@ -14,18 +15,21 @@ use Rattle.smp_model.specs.declared.reply.Reply.{Reply}
 use Rattle.smp_model.specs.Meant as meant
 use Rattle.smp_model.specs.Meant.{Meant}
 use Rattle.smp_model.specs.Response.{Response}
-use Rattle.smp_model.specs.Steps.{Step, applied, side_at}
+use Rattle.smp_model.specs.Steps.{Step, applied, settle, settle_steps, side_at, start}
 use Rattle.smp_settings.specs.Saved.{SavedStand}
 use Rattle.smp_upload.specs.declared.states.UploadFault.{UploadFault}
+use Rattle.smp_upload.proofs.Composing.{shows_stands}
 use Rattle.smp_side.specs.Held.{result_end}
-use Rattle.smp_device.specs.Answers.{ImagesPay}
+use Rattle.smp_device.specs.Answers.{ImagesPay, StepsPay}
 use Rattle.smp_device.specs.DeviceLaws.{DeviceLaws}
 use Rattle.smp_device.specs.Goings.{AreCounted, durable}
 use Rattle.smp_device.specs.Mounts.{Untouches}
 use Rattle.smp_device.specs.Places.{Places, ImagesStand, StandsAt, place_at, places_of}
 use Rattle.smp_device.specs.Serving.{Idles, IfOfFlash, ReachedFrom, ServicePays}
-use Rattle.smp_device.specs.Up.{Up, Stands, Carries}
+use Rattle.smp_device.specs.Starting.{StartPays, StartsOn}
+use Rattle.smp_device.specs.Up.{Up, ShowsAt, Stands, Carries}
 use Rattle.smp_device.specs.declared.images.Replied.{Replied}
+use Rattle.smp_device.specs.declared.starting.Begun.{Begun}
 
 -- Bytes that are the same stand for the same durable part.
 
@@ -108,3 +112,44 @@ pub images_idle : (sizes : Sizes) (m : Meant) (up after : Up) (r : Replied) (a b
 images_idle sizes m up after r a b e f = λ d has images saved.
     let u = f d has images in
     record { answered = u.answered; images_same = e ∙ u.images_same; flash_same = u.flash_same }
+
+-- Starts.
+
+-- patience is taken in each region that counts the steps of settling
+abbrev pub SettlingPays : Places → FlashState → FlashState → Option (List ℕ) → Type 0
+SettlingPays p a b x = (region : Region) (d : AbstractDevice) → a.aim ≡ Some region → IsSomeAnd x (Stands p d.target d) → AreCounted region d (settle_steps d) → Smaller a.patience b.patience
+
+pub shows_stand : (l : Option Layout) (s : Option Side) (bytes : List ℕ) → ShowsAt l s bytes → StandsAt l s bytes
+shows_stand None None bytes f = tt
+shows_stand None (Some s) bytes f = absurd f
+shows_stand (Some l) None bytes f = absurd f
+shows_stand (Some l) (Some s) bytes f = shows_stands l s bytes f
+
+any_start : DeviceLaws → (p : Places) (begun : Begun) (a b : FlashState) (x y : Option (List ℕ)) → x ≡ a.bytes → y ≡ b.bytes → Goes a b → Told (StartsOn p (Ok begun)) x y
+    → (d : AbstractDevice) → a.aim ≡ Some regions.Any → IsSomeAnd x (Stands p d.target d) → (durable (settle d) ≡ durable d → ⊥) → Smaller a.patience b.patience
+any_start laws p begun a b None y i j goes f d aim stands moved = absurd stands
+any_start laws p begun a b (Some u) None i j goes f d aim stands moved = absurd f
+any_start laws p begun a b (Some u) (Some v) i j goes f d aim stands moved =
+    let shows = (f d stands).shows in
+    let here : SidesStand p (start d) v = λ n. shows_stand (place_at n p) (side_at n (start d)) v (shows.sides n) in
+    elim (goes.costs aim) [
+      | inl same ↦
+        let e : v ≡ u = some_bytes u v (j ∙ same ∙ sym i) in
+        absurd (moved (durable_same laws p d (start d) u stands.images.sides stands.saved (subst (λ (w : List ℕ). SidesStand p (start d) w) e here) (subst (λ (w : List ℕ). SavedStand p.first (start d).saved w) e shows.saved)))
+      | inr less ↦ less
+    ]
+
+pub start_pays : DeviceLaws → (p : Places) (begun : Begun) (a b : FlashState) → Goes a b → Told (StartsOn p (Ok begun)) a.bytes b.bytes → SettlingPays p a b a.bytes → StartPays p a b
+start_pays laws p begun a b goes f counted regions.Any d aim stands moved = any_start laws p begun a b a.bytes b.bytes refl refl goes f d aim stands moved
+start_pays laws p begun a b goes f counted region d aim stands c = counted region d aim stands c
+
+-- by the settling between two calls that change no byte
+settled_stood : (p : Places) (d : AbstractDevice) (x : Option (List ℕ)) → IsSomeAnd x (Stands p d.target d) → IsSomeAnd x (ImagesStand p d.target d)
+settled_stood p d None s = absurd s
+settled_stood p d (Some u) s = s.images
+
+pub settling_pays : (p : Places) (a b c d : FlashState) → Goes a b → b.bytes ≡ a.bytes → ((t : ℕ) → StepsPay p t settle_steps b c) → Goes c d → SettlingPays p a d a.bytes
+settling_pays p a b c d first kept pays last = λ region e aim stands counted.
+    let there : IsSomeAnd b.bytes (ImagesStand p e.target e) = subst (λ (x : Option (List ℕ)). IsSomeAnd x (ImagesStand p e.target e)) (sym kept) (settled_stood p e a.bytes stands) in
+    let less : Smaller b.patience c.patience = pays e.target region e (first.aim ∙ aim) there counted in
+    Smaller-then a.patience c.patience d.patience (then_Smaller a.patience b.patience c.patience first.patience less) last.patience

@@ -15,3 +15,4 @@ pub mod DeviceLaws
 pub mod Handling
 pub mod Showing
 pub mod Starting
+pub mod Arming
