@@ -2,7 +2,7 @@
 use Rattle.std.proofs.Common.{◌≡◌, ◌⊎◌, inl, inr, ℕ, zero, suc, ◌+◌, ◌≤◌, ◌<◌, ◌^◌, Bool, true, false, ◌&&◌, if◌then◌else◌, Option, Some, None, List, Result, Ok, Err, refl, sym, ◌∙◌, ap, subst, arith}
 use Rattle.std.specs.Prelude.{IfSome, IsSome, IsSomeAnd, is_some}
 use Rattle.smp_flash.specs.Area.{Keeps}
-use Rattle.smp_flash.specs.Layout.{geometry_of, image_of, progress_of}
+use Rattle.smp_flash.specs.Layout.{geometry_of, progress_of, settings_of}
 use Rattle.smp_flash.specs.State.{FlashState}
 use Rattle.smp_flash.specs.State.End.{WentOff, Failed}
 use Rattle.smp_flash.specs.declared.arm.ArmKind.{ArmKind}
@@ -29,7 +29,7 @@ use Rattle.smp_upload.specs.Needs.{MountNeeds, is_unclean, mount_records, upload
 use Rattle.smp_upload.specs.declared.states.UploadFault.{UploadFault}
 use Rattle.smp_upload.specs.declared.states.UploadFault.TheVariants as faults
 use Rattle.smp_upload.proofs.Apartness.{ages_clear}
-use Rattle.smp_device.specs.Arming.{BootComes, DeviceStands, IsFresh, IsTelling, IsTold, Left, armed_in}
+use Rattle.smp_device.specs.Arming.{Aged, BootComes, IsFresh, IsReady, IsTold, armed_in}
 use Rattle.smp_device.specs.DeviceLaws.{DeviceLaws}
 use Rattle.smp_device.specs.Goings as goings
 use Rattle.smp_device.specs.Goings.{BootEnd, ended_by}
@@ -40,7 +40,7 @@ use Rattle.smp_device.specs.Up.{Readable, Stands, up_of}
 use Rattle.smp_device.specs.declared.images.Images.{Images}
 use Rattle.smp_device.specs.declared.starting.Begun.{Begun}
 use Rattle.smp_device.proofs.Nearer.{shows_stand}
-use Rattle.smp_device.proofs.PacketsGo.{Holds, some_at, stands_own, told_at}
+use Rattle.smp_device.proofs.PacketsGo.{Holds, some_at, stands_own, told_at, told_both}
 use Rattle.smp_device.proofs.Parting.{apart_second, is_second}
 use Rattle.smp_device.proofs.Strikes.{IsStruck, is_told, is_telling, stays_armed, strikes}
 
@@ -107,6 +107,12 @@ never_unformatted : (p : Places) (t : ℕ) (d : AbstractDevice) (x : Option (Lis
 never_unformatted p t d None u e s f = cc e
 never_unformatted p t d (Some v) u e s f = let same : v ≡ u = cc e in f (readable p t d v (subst (λ (z : List ℕ). Stands p t d z) (sym same) s))
 
+starts_aged : (p : Places) (r : Result Begun UploadFault) (a b : FlashState) (u v : List ℕ) → a.bytes ≡ Some u → b.bytes ≡ Some v → Starts p r a b → Aged p 2 0 u v
+starts_aged p r a b u v e f starts = record {
+  progress = λ i l at. told_both (AgesAtMost 2 (progress_of l)) a.bytes b.bytes u v e f (starts.progress_ages i l at);
+  settings = told_both (AgesAtMost 0 (settings_of p.first)) a.bytes b.bytes u v e f starts.settings_ages;
+}
+
 -- It went through.
 
 started_stands : (p : Places) (d : AbstractDevice) (begun : Begun) (bytes : List ℕ) → Started p d begun bytes → Stands p (start d).target (start d) bytes
@@ -115,7 +121,7 @@ started_stands p d begun bytes s = record {
   saved = s.shows.saved;
 }
 
-up_comes : (new : DeviceState) (d : AbstractDevice) (u : List ℕ) (a b : FlashState) → IsTold new.places u a → Stands new.places d.target d u → IsUp new a b → BootComes d new (Ok tt) a b
+up_comes : (new : DeviceState) (d : AbstractDevice) (u : List ℕ) (a b : FlashState) → IsTold new.places u a → Stands new.places d.target d u → IsUp new a b → BootComes d u new (Ok tt) a b
 up_comes new d u a b told stands f =
     let p = new.places in
     let begun = begun_of f.images new in
@@ -135,6 +141,8 @@ up_comes new d u a b told stands f =
           up = subst (λ (o : Option Images). Holds new.settings new.files new.counters (start d) o) (sym f.up)
               (s.shows.target_is, record { running = sym s.running; files = sym f.files; counters = sym f.counters });
         };
+        aged = starts_aged p (Ok begun) a b u at.0 told.bytes_are at.1 f.starts;
+        sizes = f.starts.calls.passes.geometry;
         armed_is = is_told st.after b st.told;
         telling = is_telling st.after b st.told;
         on = f.starts.calls.passes.on ∙ told.on;
@@ -157,7 +165,7 @@ cut_end arms.Cut is = refl
 cut_end kind is = absurd is
 
 failed_comes : (new : DeviceState) (operation : Operation) (d : AbstractDevice) (u : List ℕ) (a b : FlashState) → IsTold new.places u a → Stands new.places d.target d u → IsDown new.places (faults.Fault operation) new a b
-    → BootComes d new (Err (faults.Fault operation)) a b
+    → BootComes d u new (Err (faults.Fault operation)) a b
 failed_comes new operation d u a b told stands f =
     let p = new.places in
     let at = told_at (StartsOn p (Err (faults.Fault operation))) a.bytes b.bytes u told.bytes_are f.starts.started in
@@ -172,13 +180,15 @@ failed_comes new operation d u a b told stands f =
         held = at.0;
         bytes = at.1;
         stands = record { stands = down_stands p d at.0 s; up = subst (λ (o : Option Images). Holds new.settings new.files new.counters (applied s.taken d) o) (sym f.down) tt };
+        aged = starts_aged p (Err (faults.Fault operation)) a b u at.0 told.bytes_are at.1 f.starts;
+        sizes = f.starts.calls.passes.geometry;
         armed_is = is_told None b struck.gone;
         telling = is_telling None b struck.gone;
         on = f.starts.calls.passes.on;
       };
     }
 
-cut_comes : (new : DeviceState) (d : AbstractDevice) (u : List ℕ) (a b : FlashState) → IsTold new.places u a → Stands new.places d.target d u → IsDown new.places faults.Off new a b → BootComes d new (Err faults.Off) a b
+cut_comes : (new : DeviceState) (d : AbstractDevice) (u : List ℕ) (a b : FlashState) → IsTold new.places u a → Stands new.places d.target d u → IsDown new.places faults.Off new a b → BootComes d u new (Err faults.Off) a b
 cut_comes new d u a b told stands f =
     let p = new.places in
     let at = told_at (StartsOn p (Err faults.Off)) a.bytes b.bytes u told.bytes_are f.starts.started in
@@ -193,6 +203,8 @@ cut_comes new d u a b told stands f =
         held = at.0;
         bytes = at.1;
         stands = record { stands = down_stands p d at.0 s; up = subst (λ (o : Option Images). Holds new.settings new.files new.counters (applied s.taken d) o) (sym f.down) tt };
+        aged = starts_aged p (Err faults.Off) a b u at.0 told.bytes_are at.1 f.starts;
+        sizes = f.starts.calls.passes.geometry;
         armed_is = is_told None b struck.gone;
         telling = is_telling None b struck.gone;
         on = f.starts.calls.passes.off;
@@ -202,14 +214,13 @@ cut_comes new d u a b told stands f =
 own_places : (p : Places) (u : List ℕ) (a : FlashState) → IsTold p u a → ArePlaces (geometry_of p.first) p
 own_places p u a t = subst (λ (g : Geometry). ArePlaces g p) (sym t.sizes.are.first.0) t.sizes.are
 
-restart_comes : (new : DeviceState) (result : Result (Unit {0}) UploadFault) (d : AbstractDevice) (u : List ℕ) (a b : FlashState) → IsTold new.places u a → Stands new.places d.target d u → Restarts result new.places new a b → BootComes d new result a b
+restart_comes : (new : DeviceState) (result : Result (Unit {0}) UploadFault) (d : AbstractDevice) (u : List ℕ) (a b : FlashState) → IsTold new.places u a → Stands new.places d.target d u → Restarts result new.places new a b → BootComes d u new result a b
 restart_comes new (Ok x) d u a b told stands f = up_comes new d u a b told stands f
 restart_comes new (Err (faults.Fault operation)) d u a b told stands f = failed_comes new operation d u a b told stands f
 restart_comes new (Err faults.Off) d u a b told stands f = cut_comes new d u a b told stands f
 restart_comes new (Err faults.Worn) d u a b told stands f = absurd (never_worn new.places a.bytes u told.bytes_are (own_places new.places u a told) told.fresh f.starts.caused)
 restart_comes new (Err faults.Unformatted) d u a b told stands f = absurd (never_unformatted new.places d.target d a.bytes u told.bytes_are stands f.starts.caused)
 
-pub boots_go : (places : Places) (new : DeviceState) (result : Result (Unit {0}) UploadFault) (d : AbstractDevice) (u : List ℕ) (a b : FlashState) → IsTold places u a → Stands places d.target d u → new.places ≡ places → Restarts result places new a b
-    → BootComes d new result a b
-boots_go places new result d u a b told stands same f =
-    restart_comes new result d u a b (subst (λ (p : Places). IsTold p u a) (sym same) told) (subst (λ (p : Places). Stands p d.target d u) (sym same) stands) (subst (λ (p : Places). Restarts result p new a b) (sym same) f)
+pub boots_go : (old new : DeviceState) (result : Result (Unit {0}) UploadFault) (d : AbstractDevice) (u : List ℕ) (a b : FlashState) → IsReady old d u a → new.places ≡ old.places → Restarts result old.places new a b → BootComes d u new result a b
+boots_go old new result d u a b r same f =
+    restart_comes new result d u a b (subst (λ (p : Places). IsTold p u a) (sym same) r.told) (subst (λ (p : Places). Stands p d.target d u) (sym same) r.stands.stands) (subst (λ (p : Places). Restarts result p new a b) (sym same) f)

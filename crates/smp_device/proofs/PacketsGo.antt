@@ -3,7 +3,7 @@ use Rattle.std.proofs.Common.{◌≡◌, ◌⊎◌, inl, inr, ℕ, zero, suc, �
 use Rattle.std.specs.Prelude.{IfSome, IsSomeAnd, is_some}
 use Rattle.smp_flash.specs.Area.{Told}
 use Rattle.smp_flash.specs.Calls.{Smaller}
-use Rattle.smp_flash.specs.Layout.{geometry_of}
+use Rattle.smp_flash.specs.Layout.{geometry_of, progress_of, settings_of}
 use Rattle.smp_flash.specs.State.{FlashState}
 use Rattle.smp_flash.specs.State.End.{WentOff, Failed}
 use Rattle.smp_flash.specs.declared.arm.ArmKind.{ArmKind}
@@ -14,6 +14,7 @@ use Rattle.smp_flash.specs.declared.geometry.Geometry.{Geometry}
 use Rattle.smp_flash.specs.declared.region.Region.{Region}
 use Rattle.smp_flash.specs.declared.region.Region.TheVariants as regions
 use Rattle.smp_flash.proofs.Passing.{Goes-refl}
+use Rattle.smp_gate.specs.Newest.{AgesAtMost}
 use Rattle.smp_header.specs.Message.{Message, packet}
 use Rattle.smp_model.specs.declared.device.AbstractDevice.{AbstractDevice}
 use Rattle.smp_model.specs.declared.device.Counters.{Counters}
@@ -34,7 +35,7 @@ use Rattle.smp_settings.specs.Saved.{SettingsState}
 use Rattle.smp_upload.specs.declared.states.UploadFault.{UploadFault}
 use Rattle.smp_upload.specs.declared.states.UploadFault.TheVariants as faults
 use Rattle.smp_device.specs.Answers.{WornSomewhere}
-use Rattle.smp_device.specs.Arming.{DeviceStands, DropComes, IsFresh, IsReady, IsTelling, IsTold, Left, MessageComes, PacketComes, RequestComes, TellsArmed, answered_by, armed_in, sent_to}
+use Rattle.smp_device.specs.Arming.{Aged, DeviceStands, DropComes, IsFresh, IsReady, IsTelling, IsTold, Left, MessageComes, PacketComes, RequestComes, TellsArmed, answered_by, armed_in, sent_to}
 use Rattle.smp_device.specs.DeviceLaws.{DeviceLaws}
 use Rattle.smp_device.specs.Goings.{Armed, Went, Goes, BringNearer, AreCounted, IsToldBy, StaysArmed, after_going, durable, group_of}
 use Rattle.smp_device.specs.Handling.{AnswersError, AnswersMeaning, AnswersRequest, DeviceState, Drops, Fell, Finishes, Handles, HandlesBy, HandlesPacket, HandlesUp, Sent, failed_said, flash_group, handled_by, left_by}
@@ -143,7 +144,7 @@ pub record Before (up : Up) (d : AbstractDevice) (u : List ℕ) (a : FlashState)
   pub carries : Carries up d
 
 -- What came of it.
-pub record Came (g : Geometry) (to : Message) (mm : Result Meant ℕ) (up : Up) (settings : SettingsState) (files : List StoredFile) (counters : Counters) (d : AbstractDevice) (out : List ℕ) (left : Option Images) (result : Result Handled Down)
+pub record Came (g : Geometry) (to : Message) (mm : Result Meant ℕ) (up : Up) (settings : SettingsState) (files : List StoredFile) (counters : Counters) (d : AbstractDevice) (u out : List ℕ) (left : Option Images) (result : Result Handled Down)
     (a b : FlashState) : Type 0 where
   pub went : Went
   pub goes : Goes (sizes_of g) (armed_in a) d mm went
@@ -154,6 +155,8 @@ pub record Came (g : Geometry) (to : Message) (mm : Result Meant ℕ) (up : Up) 
   pub bytes : b.bytes ≡ Some held
   pub stands : Stands (places_of up.images) (after_going went d).target (after_going went d) held
   pub holds : Holds settings files counters (after_going went d) left
+  pub aged : Aged (places_of up.images) 5 1 u held
+  pub sizes : b.geometry ≡ a.geometry
   pub told : TellsArmed went.armed b
   pub on : b.on ≡ is_some went.reply
 
@@ -161,10 +164,24 @@ left_up : (resets : Bool) (images : Images) → is_some (left_by resets images) 
 left_up true images = refl
 left_up false images = refl
 
+-- The banks aged.
+
+pub told_both : (P : List ℕ → List ℕ → Type 0) (x y : Option (List ℕ)) (u v : List ℕ) → x ≡ Some u → y ≡ Some v → Told P x y → P u v
+told_both P x y u v e f t = subst (λ (o : Option (List ℕ)). Told P (Some u) o) f (subst (λ (o : Option (List ℕ)). Told P o y) e t)
+
+serves_aged : (g : Geometry) (m : Meant) (up after : Up) (fate : Result Reply UploadFault) (a b : FlashState) (u v : List ℕ) → a.bytes ≡ Some u → b.bytes ≡ Some v → Serves g (Ok m) up after fate a b → Aged (places_of up.images) 5 1 u v
+serves_aged g m up after fate a b u v e f serves = record {
+  progress = λ i l at. told_both (AgesAtMost 5 (progress_of l)) a.bytes b.bytes u v e f (serves.progress_ages i l at);
+  settings = told_both (AgesAtMost 1 (settings_of (places_of up.images).first)) a.bytes b.bytes u v e f serves.settings_ages;
+}
+
+pub not_aged : (p : Places) (records saves : ℕ) (u : List ℕ) → Aged p records saves u u
+not_aged p records saves u = record { progress = λ i l at. record { kept = omega arith; most = omega arith }; settings = record { kept = omega arith; most = omega arith } }
+
 -- It was answered.
 ok_came : DeviceLaws → (g : Geometry) (to : Message) (m : Meant) (up : Up) (settings : SettingsState) (files : List StoredFile) (counters : Counters) (images : Images) (reply : Reply) (d : AbstractDevice) (u out : List ℕ) (left : Option Images)
     (result : Result Handled Down) (a b : FlashState) → Before up d u a → Serves g (Ok m) up (up_of images settings files up.counters) (Ok reply) a b → Sent to (said_of reply) (is_reset (Ok m)) up.counters counters images out left result
-    → Came g to (Ok m) up settings files counters d out left result a b
+    → Came g to (Ok m) up settings files counters d u out left result a b
 ok_came laws g to m up settings files counters images reply d u out left result a b before serves sent =
     let p = places_of up.images in
     let after = up_of images settings files up.counters in
@@ -185,6 +202,8 @@ ok_came laws g to m up settings files counters images reply d u out left result 
       stands = stands_counting p e (after_reply (is_error (said_of reply)) e.counters) at.0 (stands_own p images.target e at.0 r.stands);
       holds = subst (λ (o : Option Images). Holds settings files counters (counted (said_of reply) e) o) (sym sent.left_is)
           (holds_by settings files counters (counted (said_of reply) e) images (is_reset (Ok m)) r.stands.images.target_is (carries_counted images settings files up.counters counters e (is_error (said_of reply)) sent.counted r.carries));
+      aged = serves_aged g m up after (Ok reply) a b u at.0 before.bytes at.1 serves;
+      sizes = serves.calls.passes.geometry;
       told = st.told;
       on = serves.calls.passes.on ∙ before.on;
     }
@@ -204,7 +223,7 @@ told_by operation kind m e is = absurd is
 -- An operation failed.
 failed_came : (g : Geometry) (to : Message) (m : Meant) (up : Up) (settings : SettingsState) (files : List StoredFile) (counters : Counters) (images : Images) (operation : Operation) (d : AbstractDevice) (u out : List ℕ) (left : Option Images)
     (result : Result Handled Down) (a b : FlashState) → Before up d u a → Serves g (Ok m) up (up_of images settings files up.counters) (Err (faults.Fault operation)) a b
-    → Sent to (failed_said m operation) false up.counters counters images out left result → Came g to (Ok m) up settings files counters d out left result a b
+    → Sent to (failed_said m operation) false up.counters counters images out left result → Came g to (Ok m) up settings files counters d u out left result a b
 failed_came g to m up settings files counters images operation d u out left result a b before serves sent =
     let p = places_of up.images in
     let after = up_of images settings files up.counters in
@@ -237,6 +256,8 @@ failed_came g to m up settings files counters images operation d u out left resu
       stands = stands_counting p e (after_reply true e.counters) at.0 (stands_own p images.target e at.0 r.stands);
       holds = subst (λ (o : Option Images). Holds settings files counters (counted reply e) o) (sym sent.left_is)
           (holds_by settings files counters (counted reply e) images false r.stands.images.target_is (carries_counted images settings files up.counters counters e true sent.counted r.carries));
+      aged = serves_aged g m up after (Err (faults.Fault operation)) a b u at.0 before.bytes at.1 serves;
+      sizes = serves.calls.passes.geometry;
       told = s.gone;
       on = serves.calls.passes.on;
     }
@@ -244,7 +265,7 @@ failed_came g to m up settings files counters images operation d u out left resu
 -- Power was cut.
 cut_came : (g : Geometry) (to : Message) (m : Meant) (up : Up) (settings : SettingsState) (files : List StoredFile) (counters : Counters) (images : Images) (d : AbstractDevice) (u out : List ℕ) (left : Option Images)
     (result : Result Handled Down) (a b : FlashState) → Before up d u a → Serves g (Ok m) up (up_of images settings files up.counters) (Err faults.Off) a b
-    → Fell downs.Off up.counters counters out left result → Came g to (Ok m) up settings files counters d out left result a b
+    → Fell downs.Off up.counters counters out left result → Came g to (Ok m) up settings files counters d u out left result a b
 cut_came g to m up settings files counters images d u out left result a b before serves f =
     let p = places_of up.images in
     let after = up_of images settings files up.counters in
@@ -273,6 +294,8 @@ cut_came g to m up settings files counters images d u out left result a b before
       bytes = at.1;
       stands = stands_own p images.target (applied r.taken d) at.0 r.stands;
       holds = subst (λ (o : Option Images). Holds settings files counters (applied r.taken d) o) (sym f.left_is) tt;
+      aged = serves_aged g m up after (Err faults.Off) a b u at.0 before.bytes at.1 serves;
+      sizes = serves.calls.passes.geometry;
       told = s.gone;
       on = serves.calls.passes.off;
     }
@@ -294,7 +317,7 @@ not_worn p m x u e f w = not_worn_anywhere p x u e f w
 
 request_came : DeviceLaws → (g : Geometry) (to : Message) (m : Meant) (up : Up) (settings : SettingsState) (files : List StoredFile) (counters : Counters) (images : Images) (fate : Result Reply UploadFault) (d : AbstractDevice) (u out : List ℕ) (left : Option Images)
     (result : Result Handled Down) (a b : FlashState) → Before up d u a → Serves g (Ok m) up (up_of images settings files up.counters) fate a b → Finishes to m up.counters counters images fate out left result
-    → Came g to (Ok m) up settings files counters d out left result a b
+    → Came g to (Ok m) up settings files counters d u out left result a b
 request_came laws g to m up settings files counters images (Ok reply) d u out left result a b before serves f = ok_came laws g to m up settings files counters images reply d u out left result a b before serves f
 request_came laws g to m up settings files counters images (Err (faults.Fault operation)) d u out left result a b before serves f =
     failed_came g to m up settings files counters images operation d u out left result a b before serves f
@@ -304,7 +327,7 @@ request_came laws g to m up settings files counters images (Err faults.Unformatt
 
 -- The packet means no request.
 error_came : (g : Geometry) (to : Message) (number : ℕ) (up : Up) (settings : SettingsState) (files : List StoredFile) (counters : Counters) (d : AbstractDevice) (u out : List ℕ) (left : Option Images)
-    (result : Result Handled Down) (a b : FlashState) → Before up d u a → AnswersError to number up settings files counters out left result a b → Came g to (Err number) up settings files counters d out left result a b
+    (result : Result Handled Down) (a b : FlashState) → Before up d u a → AnswersError to number up settings files counters out left result a b → Came g to (Err number) up settings files counters d u out left result a b
 error_came g to number up settings files counters d u out left result a b before f =
     let p = places_of up.images in
     let reply = said.smp_error number in
@@ -325,12 +348,14 @@ error_came g to number up settings files counters d u out left result a b before
       stands = stands_counting p d (after_reply true d.counters) u (stands_own p up.images.target d u before.stands);
       holds = subst (λ (o : Option Images). Holds settings files counters (counted reply d) o) (sym f.sent.left_is)
           (before.stands.images.target_is, carries_counted up.images settings files up.counters counters d true f.sent.counted carries);
+      aged = not_aged p 5 1 u;
+      sizes = ap (λ (x : FlashState). x.geometry) f.flash;
       told = subst (λ (x : FlashState). TellsArmed st.after x) (sym f.flash) st.told;
       on = ap (λ (x : FlashState). x.on) f.flash ∙ before.on;
     }
 
 message_came : DeviceLaws → (g : Geometry) (to : Message) (mm : Result Meant ℕ) (up : Up) (settings : SettingsState) (files : List StoredFile) (counters : Counters) (d : AbstractDevice) (u out : List ℕ) (left : Option Images)
-    (result : Result Handled Down) (a b : FlashState) → Before up d u a → AnswersMeaning g to mm up settings files counters out left result a b → Came g to mm up settings files counters d out left result a b
+    (result : Result Handled Down) (a b : FlashState) → Before up d u a → AnswersMeaning g to mm up settings files counters out left result a b → Came g to mm up settings files counters d u out left result a b
 message_came laws g to (Ok m) up settings files counters d u out left result a b before f = request_came laws g to m up settings files counters f.images f.fate d u out left result a b before f.serves f.finishes
 message_came laws g to (Err number) up settings files counters d u out left result a b before f = error_came g to number up settings files counters d u out left result a b before f
 
@@ -350,9 +375,9 @@ before_of old images d u a e r =
       carries = up.1;
     }
 
-request_comes : (to : Message) (old new : DeviceState) (images : Images) (d : AbstractDevice) (out : List ℕ) (result : Result Handled Down) (a b : FlashState) → new.places ≡ places_of images
-    → Came (geometry_of old.places.first) to (meaning to) (up_of images old.settings old.files old.counters) new.settings new.files new.counters d out new.up result a b → RequestComes to d old new out result a b
-request_comes to old new images d out result a b same c = record {
+request_comes : (to : Message) (old new : DeviceState) (images : Images) (d : AbstractDevice) (u out : List ℕ) (result : Result Handled Down) (a b : FlashState) → new.places ≡ places_of images → old.places ≡ places_of images
+    → Came (geometry_of old.places.first) to (meaning to) (up_of images old.settings old.files old.counters) new.settings new.files new.counters d u out new.up result a b → RequestComes to d u old new out result a b
+request_comes to old new images d u out result a b same was c = record {
   went = c.went;
   goes = c.goes;
   sent = c.sent;
@@ -365,6 +390,8 @@ request_comes to old new images d out result a b same c = record {
       stands = subst (λ (p : Places). Stands p (after_going c.went d).target (after_going c.went d) c.held) (sym same) c.stands;
       up = c.holds;
     };
+    aged = subst (λ (p : Places). Aged p 5 1 u c.held) (sym was) c.aged;
+    sizes = c.sizes;
     armed_is = is_told c.went.armed b c.told;
     telling = is_telling c.went.armed b c.told;
     on = c.on;
@@ -384,7 +411,7 @@ drop_stands old d u s = record {
   up = drop_holds old.settings old.files old.counters d old.up s.up;
 }
 
-drop_comes : (old new : DeviceState) (d : AbstractDevice) (u out : List ℕ) (result : Result Handled Down) (a b : FlashState) → IsReady old d u a → Drops old new out result a b → DropComes d old new out result a b
+drop_comes : (old new : DeviceState) (d : AbstractDevice) (u out : List ℕ) (result : Result Handled Down) (a b : FlashState) → IsReady old d u a → Drops old new out result a b → DropComes d u old new out result a b
 drop_comes old new d u out result a b r f = record {
   nothing = f.nothing;
   answer = f.answer;
@@ -394,6 +421,8 @@ drop_comes old new d u out result a b r f = record {
     held = u;
     bytes = ap (λ (x : FlashState). x.bytes) f.flash ∙ r.told.bytes_are;
     stands = subst (λ (s : DeviceState). DeviceStands s (record d { counters = after_drop d.counters }) u) (sym f.device) (drop_stands old d u r.stands);
+    aged = not_aged old.places 0 0 u;
+    sizes = ap (λ (x : FlashState). x.geometry) f.flash;
     armed_is = ap armed_in f.flash;
     telling = subst IsTelling (sym f.flash) r.told.telling;
     on = ap (λ (x : FlashState). x.on) f.flash ∙ r.told.on;
@@ -401,22 +430,22 @@ drop_comes old new d u out result a b r f = record {
 }
 
 message_comes : DeviceLaws → (request : Bool) (to : Message) (old new : DeviceState) (images : Images) (d : AbstractDevice) (u out : List ℕ) (result : Result Handled Down) (a b : FlashState) → old.up ≡ Some images → IsReady old d u a → new.places ≡ old.places
-    → HandlesBy request to images old new out result a b → MessageComes request to d old new out result a b
+    → HandlesBy request to images old new out result a b → MessageComes request to d u old new out result a b
 message_comes laws true to old new images d u out result a b e r same h =
-    request_comes to old new images d out result a b (same ∙ sym (held_places old.places old.up images e r.whole.images))
+    request_comes to old new images d u out result a b (same ∙ sym (held_places old.places old.up images e r.whole.images)) (sym (held_places old.places old.up images e r.whole.images))
     (message_came laws (geometry_of old.places.first) to (meaning to) (up_of images old.settings old.files old.counters) new.settings new.files new.counters d u out new.up result a b (before_of old images d u a e r) h)
 message_comes laws false to old new images d u out result a b e r same h = drop_comes old new d u out result a b r h
 
 packet_comes : DeviceLaws → (o : Option Message) (old new : DeviceState) (images : Images) (d : AbstractDevice) (u out : List ℕ) (result : Result Handled Down) (a b : FlashState) → old.up ≡ Some images → IsReady old d u a → new.places ≡ old.places
-    → HandlesPacket o images old new out result a b → PacketComes o d old new out result a b
+    → HandlesPacket o images old new out result a b → PacketComes o d u old new out result a b
 packet_comes laws None old new images d u out result a b e r same h = drop_comes old new d u out result a b r h
 packet_comes laws (Some to) old new images d u out result a b e r same h = message_comes laws (is_request to) to old new images d u out result a b e r same h
 
 up_comes : DeviceLaws → (bytes : List ℕ) (o : Option Images) (old new : DeviceState) (d : AbstractDevice) (u out : List ℕ) (result : Result Handled Down) (a b : FlashState) → old.up ≡ o → IsReady old d u a → new.places ≡ old.places
-    → HandlesUp o bytes old new out result a b → PacketComes (packet bytes) d old new out result a b
+    → HandlesUp o bytes old new out result a b → PacketComes (packet bytes) d u old new out result a b
 up_comes laws bytes None old new d u out result a b e r same h = absurd h
 up_comes laws bytes (Some images) old new d u out result a b e r same h = packet_comes laws (packet bytes) old new images d u out result a b e r same h
 
 pub packets_go : DeviceLaws → (bytes : List ℕ) (old new : DeviceState) (d : AbstractDevice) (u out : List ℕ) (result : Result Handled Down) (a b : FlashState) → IsReady old d u a → new.places ≡ old.places
-    → Handles bytes old new out result a b → PacketComes (packet bytes) d old new out result a b
+    → Handles bytes old new out result a b → PacketComes (packet bytes) d u old new out result a b
 packets_go laws bytes old new d u out result a b r same h = up_comes laws bytes old.up old new d u out result a b refl r same h

@@ -5,7 +5,7 @@ use Rattle.smp_flash.specs.State.{FlashState, Troubles}
 use Rattle.smp_flash.specs.declared.arm.ArmKind.{ArmKind}
 use Rattle.smp_flash.specs.declared.arm.ArmKind.TheVariants as arms
 use Rattle.smp_flash.specs.declared.region.Region.{Region}
-use Rattle.smp_gate.specs.Newest.{newest_generation}
+use Rattle.smp_gate.specs.Newest.{AgesAtMost, newest_generation}
 use Rattle.smp_header.specs.Message.{Message}
 use Rattle.smp_model.specs.declared.device.AbstractDevice.{AbstractDevice}
 use Rattle.smp_model.specs.Counters.{after_drop}
@@ -106,41 +106,48 @@ abbrev pub answered_by : Option Said → (resets : Bool) → Result Handled Down
 answered_by None resets = Err downs.Off
 answered_by (Some reply) resets = Ok (handled_by resets)
 
+-- The records of the images aged by so many at most, and the settings' bank too.
+pub record Aged (p : Places) (records saves : ℕ) (old new : List ℕ) : Type 0 where
+  pub progress : AtEach (λ l. AgesAtMost records (progress_of l) old new) p
+  pub settings : AgesAtMost saves (settings_of p.first) old new
+
 -- What value and flash are after it: they stand for this device, and the flash tells what is armed then; it is on where power
--- stayed.
-pub record Left (armed : Option Armed) (powered : Bool) (new : DeviceState) (d : AbstractDevice) (b : FlashState) : Type 0 where
+-- stayed, and of the same sizes.
+pub record Left (p : Places) (records saves : ℕ) (before : List ℕ) (armed : Option Armed) (powered : Bool) (new : DeviceState) (d : AbstractDevice) (a b : FlashState) : Type 0 where
   pub held : List ℕ
   pub bytes : b.bytes ≡ Some held
   pub stands : DeviceStands new d held
+  pub aged : Aged p records saves before held
+  pub sizes : b.geometry ≡ a.geometry
   pub armed_is : armed_in b ≡ armed
   pub telling : IsTelling b
   pub on : b.on ≡ powered
 
 -- What came of a packet that is a request. The device is down where no reply was sent, and where a reset was answered.
-pub record RequestComes (to : Message) (d : AbstractDevice) (old new : DeviceState) (out : List ℕ) (result : Result Handled Down) (a b : FlashState) : Type 0 where
+pub record RequestComes (to : Message) (d : AbstractDevice) (before : List ℕ) (old new : DeviceState) (out : List ℕ) (result : Result Handled Down) (a b : FlashState) : Type 0 where
   pub went : Went
   pub goes : Goes (sizes_of (geometry_of old.places.first)) (armed_in a) d (meaning to) went
   pub sent : out ≡ sent_to to went.reply
   pub answer : result ≡ answered_by went.reply (is_reset (meaning to))
   pub is_up : is_some new.up ≡ (is_some went.reply && not (is_reset (meaning to)))
-  pub left : Left went.armed (is_some went.reply) new (after_going went d) b
+  pub left : Left old.places 5 1 before went.armed (is_some went.reply) new (after_going went d) a b
 
 -- Bytes that are no request are dropped.
-pub record DropComes (d : AbstractDevice) (old new : DeviceState) (out : List ℕ) (result : Result Handled Down) (a b : FlashState) : Type 0 where
+pub record DropComes (d : AbstractDevice) (before : List ℕ) (old new : DeviceState) (out : List ℕ) (result : Result Handled Down) (a b : FlashState) : Type 0 where
   pub nothing : out ≡ []
   pub answer : result ≡ Ok handleds.Dropped
   pub flash : b ≡ a
   pub is_up : new.up ≡ old.up
-  pub left : Left (armed_in a) true new (record d { counters = after_drop d.counters }) b
+  pub left : Left old.places 0 0 before (armed_in a) true new (record d { counters = after_drop d.counters }) a b
 
-abbrev pub MessageComes : (request : Bool) → Message → AbstractDevice → (old new : DeviceState) → List ℕ → Result Handled Down → FlashState → FlashState → Type 0
-MessageComes true to d old new out result a b = RequestComes to d old new out result a b
-MessageComes false to d old new out result a b = DropComes d old new out result a b
+abbrev pub MessageComes : (request : Bool) → Message → AbstractDevice → (before : List ℕ) → (old new : DeviceState) → List ℕ → Result Handled Down → FlashState → FlashState → Type 0
+MessageComes true to d before old new out result a b = RequestComes to d before old new out result a b
+MessageComes false to d before old new out result a b = DropComes d before old new out result a b
 
 -- What came of bytes, by the packet that they are.
-abbrev pub PacketComes : Option Message → AbstractDevice → (old new : DeviceState) → List ℕ → Result Handled Down → FlashState → FlashState → Type 0
-PacketComes None d old new out result a b = DropComes d old new out result a b
-PacketComes (Some to) d old new out result a b = MessageComes (is_request to) to d old new out result a b
+abbrev pub PacketComes : Option Message → AbstractDevice → (before : List ℕ) → (old new : DeviceState) → List ℕ → Result Handled Down → FlashState → FlashState → Type 0
+PacketComes None d before old new out result a b = DropComes d before old new out result a b
+PacketComes (Some to) d before old new out result a b = MessageComes (is_request to) to d before old new out result a b
 
 -- how a boot ended that was answered so
 abbrev pub IsEnd : Result (Unit {0}) UploadFault → BootEnd → Type 0
@@ -161,9 +168,9 @@ is_powered_by goings.cut = false
 is_powered_by goings.fault = true
 
 -- What came of a boot.
-pub record BootComes (d : AbstractDevice) (new : DeviceState) (result : Result (Unit {0}) UploadFault) (a b : FlashState) : Type 0 where
+pub record BootComes (d : AbstractDevice) (before : List ℕ) (new : DeviceState) (result : Result (Unit {0}) UploadFault) (a b : FlashState) : Type 0 where
   pub booted : Booted
   pub boots : Boots (armed_in a) d booted
   pub answer : IsEnd result booted.ended
   pub is_up : is_some new.up ≡ is_up_by booted.ended
-  pub left : Left booted.armed (is_powered_by booted.ended) new (after_boot booted d) b
+  pub left : Left new.places 2 0 before booted.armed (is_powered_by booted.ended) new (after_boot booted d) a b

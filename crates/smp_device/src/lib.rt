@@ -10,6 +10,7 @@
 #![tactic(auto)]
 
 mod answering;
+mod arming;
 mod device;
 mod hashes;
 mod images;
@@ -25,6 +26,7 @@ mod telling;
 mod uploads;
 
 pub use answering::{Down, Handled};
+pub use arming::{arms_are_told, boots_go, packets_go};
 pub use device::{Device, OpenFault};
 pub use hashes::set;
 pub use images::{Images, Replied, SideRequest};
