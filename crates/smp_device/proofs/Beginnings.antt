@@ -47,8 +47,10 @@ use Rattle.smp_device.specs.Starting.{AreConfirmed, AreMounted, IsMounted, OpenF
 use Rattle.smp_device.specs.Up.{AllPlaces, Readable, ShowsAt, Stands, UpSays}
 use Rattle.smp_device.specs.declared.images.Images.{Images}
 use Rattle.smp_device.specs.declared.showing.Confirmed.{Confirmed}
+use Rattle.smp_device.specs.declared.starting.Begun.{Begun}
 use Rattle.smp_device.specs.declared.showing.Shown.{Shown}
 use Rattle.smp_device.proofs.Frames.{settings_clear, settings_age}
+use Rattle.smp_device.proofs.Nearer.{settling_pays, start_pays}
 use Rattle.smp_device.proofs.Parting.{Covers-left, Covers-right}
 use Rattle.smp_device.proofs.ServingImages.{both_say}
 
@@ -98,6 +100,7 @@ start_unread p fault passed a b e calls kept un fu wo = subst (λ (f : UploadFau
   progress_ages = no_age p 2 a.bytes b.bytes kept;
   settings_ages = no_settings_age p 0 a.bytes b.bytes kept;
   pending = no_pending p a.bytes b.bytes kept;
+  pays = tt;
 })
 
 -- The images: what was reached, in words of the whole device.
@@ -147,6 +150,7 @@ start_unmounted laws law g p are fault a b c calls kept m =
       progress_ages = λ i l at. Told-from (AgesAtMost 2 (progress_of l)) a.bytes b.bytes c.bytes kept (m.ages i l at);
       settings_ages = Told-from (AgesAtMost 0 (settings_of p.first)) a.bytes b.bytes c.bytes kept (Told-map (Keeps (spots_of p)) (AgesAtMost 0 (settings_of p.first)) b.bytes c.bytes (λ u v. settings_age laws g p are 0 u v) k);
       pending = λ i l at. Told-from (KeepsPending l) a.bytes b.bytes c.bytes kept (m.pending i l at);
+      pays = tt;
     }
 
 -- It is not known which images are confirmed.
@@ -162,6 +166,7 @@ start_unconfirmed laws law g p are images fault passed a b c d e calls kept m re
   settings_ages = Told-from (AgesAtMost 0 (settings_of p.first)) a.bytes b.bytes d.bytes kept
       (subst (λ (x : Option (List ℕ)). Told (AgesAtMost 0 (settings_of p.first)) b.bytes x) (sym same) (Told-map (Keeps (spots_of p)) (AgesAtMost 0 (settings_of p.first)) b.bytes c.bytes (λ u v. settings_age laws g p are 0 u v) m.calls.keeps));
   pending = λ i l at. Told-from (KeepsPending l) a.bytes b.bytes d.bytes kept (subst (λ (x : Option (List ℕ)). Told (KeepsPending l) b.bytes x) (sym same) (m.pending i l at));
+  pays = tt;
 })
   where
     end_as : (fault : CallFault) → Calls (spots_of p) (fault_end fault) c d → Calls (spots_of p) (upload_fault_end (of_call fault)) c d
@@ -270,17 +275,21 @@ start_done_at : DeviceLaws → SavedLaw → (g : Geometry) (images : Images) (se
 start_done_at laws law g images settings confirmed are target layout running sure form a b c d calls kept say m read same is =
     let p = places_of images in
     let k = m.calls.keeps in
-    let r = Ok (record { images = images; settings = settings; confirmed = confirmed }) in
+    let begun : Begun = record { images = images; settings = settings; confirmed = confirmed } in
+    let r = Ok begun in
+    let through = Calls-after (start_spots p) Went a b d (Calls-wider (start_spots p) (bank_spots (settings_of p.first)) Went a b (bank_covered p) calls)
+        (Calls-wider (start_spots p) (spots_of p) Went b d (images_covered p) (Calls-after (spots_of p) Went b c d m.calls read)) in
+    let started = Told-from (StartsOn p r) a.bytes b.bytes d.bytes kept (subst (λ (x : Option (List ℕ)). Told (StartsOn p r) b.bytes x) (sym same)
+        (started_told laws law g images settings confirmed are target m.mounted layout running sure form b.bytes c.bytes k say (λ t. (m.settles t).does) m.says is)) in
     record {
-      calls = Calls-after (start_spots p) Went a b d (Calls-wider (start_spots p) (bank_spots (settings_of p.first)) Went a b (bank_covered p) calls)
-          (Calls-wider (start_spots p) (spots_of p) Went b d (images_covered p) (Calls-after (spots_of p) Went b c d m.calls read));
-      started = Told-from (StartsOn p r) a.bytes b.bytes d.bytes kept (subst (λ (x : Option (List ℕ)). Told (StartsOn p r) b.bytes x) (sym same)
-          (started_told laws law g images settings confirmed are target m.mounted layout running sure form b.bytes c.bytes k say (λ t. (m.settles t).does) m.says is));
+      calls = through;
+      started = started;
       caused = subst (λ (x : Option (List ℕ)). IfSome x (Readable p)) kept (readable_both p settings b.bytes layout m.readable say);
       progress_ages = λ i l at. Told-from (AgesAtMost 2 (progress_of l)) a.bytes b.bytes d.bytes kept (subst (λ (x : Option (List ℕ)). Told (AgesAtMost 2 (progress_of l)) b.bytes x) (sym same) (m.ages i l at));
       settings_ages = Told-from (AgesAtMost 0 (settings_of p.first)) a.bytes b.bytes d.bytes kept
           (subst (λ (x : Option (List ℕ)). Told (AgesAtMost 0 (settings_of p.first)) b.bytes x) (sym same) (Told-map (Keeps (spots_of p)) (AgesAtMost 0 (settings_of p.first)) b.bytes c.bytes (λ u v. settings_age laws g p are 0 u v) k));
       pending = λ i l at. Told-from (KeepsPending l) a.bytes b.bytes d.bytes kept (subst (λ (x : Option (List ℕ)). Told (KeepsPending l) b.bytes x) (sym same) (m.pending i l at));
+      pays = start_pays laws p begun a d through.passes started (settling_pays p a b c d calls.passes kept (λ t. (m.settles t).pays) read.passes);
     }
 
 -- of these places

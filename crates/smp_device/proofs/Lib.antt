@@ -11,6 +11,7 @@ pub mod Listings
 pub mod Acting
 pub mod Hashing
 pub mod Frames
+pub mod Nearer
 pub mod ServingImages
 pub mod ServingQuietly
 pub mod ToldReplies
@@ -21,3 +22,7 @@ pub mod Beginnings
 pub mod Answered
 pub mod FormattedSide
 pub mod FormattedDevice
+pub mod Strikes
+pub mod Reaching
+pub mod PacketsGo
+pub mod BootsGo

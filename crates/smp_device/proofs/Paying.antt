@@ -90,7 +90,7 @@ image_is g p (suc zero) l are at = (is_second g p.second l are.second at).1
 image_is g p (suc (suc i)) l are at = absurd (cc at)
 
 -- a change of what is lost at a start is counted nowhere
-run_uncounted : (r : Region) (d : AbstractDevice) (change : Change) → IsCounted r d (Run change) → ⊥
+pub run_uncounted : (r : Region) (d : AbstractDevice) (change : Change) → IsCounted r d (Run change) → ⊥
 run_uncounted regions.Any d change c = c
 run_uncounted regions.Slot0 d change c = c
 run_uncounted regions.Slot1 d change c = c

@@ -27,12 +27,13 @@ use Rattle.smp_side.specs.Held.{result_end}
 use Rattle.smp_device.specs.Answers.{ImagesAnswer, IsImageReply, ImagesMove, ImagesDo, ImagesTell, ImagesCaused, ResultCausedIn}
 use Rattle.smp_device.specs.DeviceLaws.{DeviceLaws}
 use Rattle.smp_device.specs.Places.{Places, ArePlaces, ImagesSay, ImagesStand, places_of, spots_of}
-use Rattle.smp_device.specs.Serving.{ReachedFrom, CausedBy, ResultCausedBy, Serves, spots_by}
+use Rattle.smp_device.specs.Serving.{CausedBy, ErasesBy, Idles, MountsBy, ReachedFrom, ResultCausedBy, Serves, spots_by}
 use Rattle.smp_device.specs.Telling.{Fitting}
 use Rattle.smp_device.specs.Up.{Up, Stands, UpSays, IsFor, Carries}
 use Rattle.smp_device.specs.Uploads.{sizes_of}
 use Rattle.smp_device.specs.declared.images.Images.{Images}
 use Rattle.smp_device.proofs.Frames.{settings_clear, settings_age}
+use Rattle.smp_device.proofs.Nearer.{images_pay}
 
 -- what is held after a request about images
 abbrev pub with_images : Up → Images → Up
@@ -149,12 +150,15 @@ both_say images settings None i s = tt
 both_say images settings (Some u) i s = record { images_say = i; settings_say = s }
 
 pub images_served : DeviceLaws → (g : Geometry) (m : Meant) → IsAboutImages m → (up : Up) (images : Images) (r : Result Reply UploadFault) (a b : FlashState) → IsFor g up.images up.settings → IfSome a.bytes (UpSays up.images up.settings)
-    → ImagesAnswer (places_of up.images) 5 up.images.target (λ d. does (sizes_of g) d m) images r a b → Serves g (Ok m) up (with_images up images) r a b
-images_served laws g m is up images r a b for says f =
+    → ImagesAnswer (places_of up.images) 5 up.images.target (λ d. does (sizes_of g) d m) images r a b
+    → Idles (sizes_of g) (Ok m) up (with_images up images) r a b → MountsBy (sizes_of g) (Ok m) up.images (record { images = images; result = r }) a b → ErasesBy (Ok m) up.images r b.bytes
+    → Serves g (Ok m) up (with_images up images) r a b
+images_served laws g m is up images r a b for says f idle mounts erased =
     let p = places_of up.images in
+    let reached = either_told laws g m is up images r for.places a.bytes b.bytes f.moves f.done f.said f.calls.keeps in
     record {
       calls = subst (λ (s : List (ℕ × ℕ)). Calls s (result_end r) a b) (sym (spots_are p m is)) f.calls;
-      reached = either_told laws g m is up images r for.places a.bytes b.bytes f.moves f.done f.said f.calls.keeps;
+      reached = reached;
       says = both_say images up.settings b.bytes f.says (settings_say laws g up for a.bytes b.bytes says f.calls.keeps);
       places_kept = f.places_kept;
       settings_kept = refl;
@@ -163,6 +167,10 @@ images_served laws g m is up images r a b for says f =
       progress_ages = f.ages;
       settings_ages = Told-map (Keeps (spots_of p)) (AgesAtMost 1 (settings_of p.first)) a.bytes b.bytes (λ u v. settings_age laws g p for.places 1 u v) f.calls.keeps;
       pending = f.pending;
+      untouched = idle;
+      mounts = mounts;
+      erased = erased;
+      pays = images_pay laws (Ok m) up (with_images up images) (λ d. does (sizes_of g) d m) r (spots_of p) a b f.calls reached f.pays;
     }
 
 -- What is answered about images can be sent.

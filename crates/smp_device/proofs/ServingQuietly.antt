@@ -1,5 +1,5 @@
 -- A request that makes no operation on the flash, served.
-use Rattle.std.proofs.Common.{◌≡◌, ℕ, zero, suc, Option, Some, None, List, [], Result, Ok, refl, sym, ◌∙◌, ap, subst, arith}
+use Rattle.std.proofs.Common.{◌≡◌, ℕ, zero, suc, Option, Some, None, List, [], Result, Ok, Err, refl, sym, ◌∙◌, ap, subst, arith}
 use Rattle.std.specs.Prelude.{IfSome}
 use Rattle.smp_flash.specs.Area.{Told}
 use Rattle.smp_flash.specs.Layout.{progress_of, settings_of}
@@ -11,9 +11,11 @@ use Rattle.smp_flash.proofs.Telling.{Told-same}
 use Rattle.smp_gate.specs.Newest.{AgesAtMost}
 use Rattle.smp_model.specs.declared.device.AbstractDevice.{AbstractDevice}
 use Rattle.smp_model.specs.declared.device.Side.{Side}
+use Rattle.smp_model.specs.declared.device.Sizes.{Sizes}
 use Rattle.smp_model.specs.declared.reply.Reply.{Reply}
 use Rattle.smp_model.specs.declared.setting.Setting.{Setting}
 use Rattle.smp_model.specs.Handled.{response_to}
+use Rattle.smp_model.specs.Meant as meant
 use Rattle.smp_model.specs.Meant.{Meant}
 use Rattle.smp_model.specs.Response.{Response}
 use Rattle.smp_model.specs.Said.{said_of}
@@ -22,10 +24,11 @@ use Rattle.smp_settings.specs.Saved.{SavedStand}
 use Rattle.smp_upload.specs.Moves.{KeepsPending}
 use Rattle.smp_upload.specs.declared.states.UploadFault.{UploadFault}
 use Rattle.smp_device.specs.Places.{Places, StandsAt, places_of, place_at}
-use Rattle.smp_device.specs.Serving.{ReachedFrom, Serves, spots_for}
+use Rattle.smp_device.specs.Serving.{ErasesBy, Idles, IfOfFlash, MountsBy, ReachedFrom, Serves, ServicePays, spots_for}
 use Rattle.smp_device.specs.Up.{Up, Stands, UpSays, Carries}
 use Rattle.smp_device.specs.Uploads.{sizes_of}
 use Rattle.smp_device.specs.declared.images.Images.{Images}
+use Rattle.smp_device.specs.declared.images.Replied.{Replied}
 
 -- what is durable, and the target, are as before
 pub record SameStanding (d e : AbstractDevice) : Type 0 where
@@ -77,6 +80,32 @@ no_age layout n u = record { kept = omega arith; most = omega arith }
 no_age_of : (layout : Layout) (n : ℕ) (u : List ℕ) → AgesAtMost n (progress_of layout) u u
 no_age_of layout n u = record { kept = omega arith; most = omega arith }
 
+-- It is none of those about images or about what is saved.
+
+quiet_idle : (sizes : Sizes) (m : Result Meant ℕ) (up after : Up) (reply : Reply) (a : FlashState) → after.images ≡ up.images → Idles sizes m up after (Ok reply) a a
+quiet_idle sizes (Ok m) up after reply a e = λ d has images saved. record { answered = refl; images_same = e; flash_same = refl }
+quiet_idle sizes (Err number) up after reply a e = record { answered = refl; images_same = e; flash_same = refl }
+
+quiet_mounts : (sizes : Sizes) (p : Places) (m : Result Meant ℕ) (before : Images) (r : Replied) (a : FlashState) → spots_for p m ≡ [] → r.images ≡ before → MountsBy sizes m before r a a
+quiet_mounts sizes p (Ok meant.image_list) before r a none e = absurd (cc none)
+quiet_mounts sizes p (Ok (meant.image_set hash confirm)) before r a none e = absurd (cc none)
+quiet_mounts sizes p (Ok (meant.upload image len off sha part)) before r a none e = absurd (cc none)
+quiet_mounts sizes p (Ok (meant.erase slot)) before r a none e = absurd (cc none)
+quiet_mounts sizes p m before r a none e = e
+
+quiet_erases : (p : Places) (m : Result Meant ℕ) (before : Images) (r : Result Reply UploadFault) (x : Option (List ℕ)) → spots_for p m ≡ [] → ErasesBy m before r x
+quiet_erases p (Ok (meant.erase slot)) before r x none = absurd (cc none)
+quiet_erases p m before r x none = tt
+
+quiet_pays : (p : Places) (m : Result Meant ℕ) (P : Type 0) → spots_for p m ≡ [] → IfOfFlash m P
+quiet_pays p (Ok meant.image_list) P none = absurd (cc none)
+quiet_pays p (Ok (meant.image_set hash confirm)) P none = absurd (cc none)
+quiet_pays p (Ok (meant.upload image len off sha part)) P none = absurd (cc none)
+quiet_pays p (Ok (meant.erase slot)) P none = absurd (cc none)
+quiet_pays p (Ok meant.load) P none = absurd (cc none)
+quiet_pays p (Ok meant.save) P none = absurd (cc none)
+quiet_pays p m P none = tt
+
 pub quiet : (g : Geometry) (m : Result Meant ℕ) (up after : Up) (reply : Reply) (a : FlashState) → spots_for (places_of up.images) m ≡ [] → after.images ≡ up.images
     → after.settings.layout ≡ up.settings.layout → after.counters ≡ up.counters → IfSome a.bytes (UpSays after.images after.settings)
     → ((d : AbstractDevice) → Carries up d → Quietly (response_to (sizes_of g) d m) d after reply) → Serves g m up after (Ok reply) a a
@@ -93,6 +122,10 @@ quiet g m up after reply a spots images layout counters says f =
       progress_ages = λ i l at. Told-same (AgesAtMost 5 (progress_of l)) a.bytes a.bytes (no_age_of l 5) refl;
       settings_ages = Told-same (AgesAtMost 1 (settings_of p.first)) a.bytes a.bytes (no_age p.first 1) refl;
       pending = λ i l at. Told-same (KeepsPending l) a.bytes a.bytes (λ u. record { kept = λ is. refl; still = λ is. refl }) refl;
+      untouched = quiet_idle (sizes_of g) m up after reply a images;
+      mounts = quiet_mounts (sizes_of g) p m up.images (record { images = after.images; result = Ok reply }) a spots images;
+      erased = quiet_erases p m up.images (Ok reply) a.bytes spots;
+      pays = quiet_pays p m (ServicePays up (λ d. response_to (sizes_of g) d m) a a) spots;
     }
 
 pub served_as : (g : Geometry) (m : Result Meant ℕ) (up after : Up) (r s : Result Reply UploadFault) (a b : FlashState) → s ≡ r → Serves g m up after r a b → Serves g m up after s a b

@@ -1,12 +1,14 @@
 -- Requests about the saved settings, served.
-use Rattle.std.proofs.Common.{◌≡◌, inl, inr, ℕ, zero, suc, ◌-◌, ◌^◌, true, Option, Some, None, List, [], ◌∷◌, Result, Ok, Err, refl, sym, ◌∙◌, ap, subst, arith}
-use Rattle.std.specs.Prelude.{IfSome, OnOk, OnErr, IsErrOf, option_map}
+use Rattle.std.proofs.Common.{◌≡◌, ◌⊎◌, inl, inr, ℕ, zero, suc, ◌-◌, ◌^◌, true, Option, Some, None, List, [], ◌∷◌, Result, Ok, Err, refl, sym, ◌∙◌, ap, subst, arith}
+use Rattle.std.specs.Prelude.{IfSome, IsSomeAnd, OnOk, OnErr, IsErrOf, option_map}
 use Rattle.smp_flash.specs.Area.{Told, Keeps}
-use Rattle.smp_flash.specs.Calls.{Calls}
+use Rattle.smp_flash.specs.Calls.{Calls, Smaller}
 use Rattle.smp_flash.specs.Layout.{settings_of, bank_spots}
 use Rattle.smp_flash.specs.State.{FlashState, End}
 use Rattle.smp_flash.specs.declared.geometry.Geometry.{Geometry}
 use Rattle.smp_flash.specs.declared.layout.Layout.{Layout}
+use Rattle.smp_flash.specs.declared.region.Region.{Region}
+use Rattle.smp_flash.specs.declared.region.Region.TheVariants as regions
 use Rattle.smp_flash.proofs.Telling.{Told-after, Told-same}
 use Rattle.smp_gate.specs.Fault.{bank_end}
 use Rattle.smp_gate.specs.Newest.{AgesAtMost, newest_generation}
@@ -14,14 +16,17 @@ use Rattle.smp_gate.specs.declared.fault.BankFault.{BankFault}
 use Rattle.smp_gate.specs.declared.fault.BankFault.TheVariants as banks
 use Rattle.smp_model.specs.declared.device.AbstractDevice.{AbstractDevice}
 use Rattle.smp_model.specs.declared.device.Side.{Side}
+use Rattle.smp_model.specs.declared.device.Sizes.{Sizes}
 use Rattle.smp_model.specs.declared.reply.Reply.{Reply}
 use Rattle.smp_model.specs.declared.reply.Reply.TheVariants as replied
 use Rattle.smp_model.specs.declared.setting.Setting.{Setting}
+use Rattle.smp_model.specs.FlashUse.{uses_saved}
 use Rattle.smp_model.specs.Handled.{response_to}
 use Rattle.smp_model.specs.Meant as meant
 use Rattle.smp_model.specs.Meant.{Meant}
+use Rattle.smp_model.specs.Response.{Response}
 use Rattle.smp_model.specs.Steps.{Save, Run, load_settings, applied, side_at}
-use Rattle.smp_settings.specs.Saved.{SavedStand, SavedOrThis, SettingsSay, SettingsState, IsWorn, saved_in}
+use Rattle.smp_settings.specs.Saved.{AimsAtSettings, SavedAlready, SavedStand, SavedOrThis, SettingsSay, SettingsState, IsWorn, saved_in}
 use Rattle.smp_upload.specs.Bytes.{Apart}
 use Rattle.smp_upload.specs.States.{known_mounted}
 use Rattle.smp_upload.specs.declared.states.UploadFault.{UploadFault}
@@ -29,12 +34,16 @@ use Rattle.smp_side.specs.Held.{HeldSays, held_layout, result_end}
 use Rattle.smp_side.specs.declared.held.Held.{Held}
 use Rattle.smp_side.specs.declared.held.Held.TheVariants as helds
 use Rattle.smp_device.specs.DeviceLaws.{DeviceLaws}
+use Rattle.smp_device.specs.Goings.{IsCounted}
 use Rattle.smp_device.specs.Places.{Places, ArePlaces, ImagesSay, ImagesStand, StandsAt, place_at, places_of}
-use Rattle.smp_device.specs.Serving.{ReachedFrom, ResultCausedBy, Serves, spots_for, bank_reply, of_bank}
+use Rattle.smp_device.specs.Serving.{ErasesBy, Idles, IfOfFlash, MountsBy, ReachedFrom, ResultCausedBy, Serves, ServicePays, spots_for, bank_reply, of_bank}
 use Rattle.smp_device.specs.Up.{Up, Stands, UpSays, IsFor, Carries}
 use Rattle.smp_device.specs.Uploads.{sizes_of}
 use Rattle.smp_device.specs.declared.images.Images.{Images}
+use Rattle.smp_device.specs.declared.images.Replied.{Replied}
 use Rattle.smp_device.proofs.Frames.{side_apart, progress_age, pending_kept}
+use Rattle.smp_device.proofs.Nearer.{CountedPay, if_of_flash, nearer_pays}
+use Rattle.smp_device.proofs.Paying.{run_uncounted}
 use Rattle.smp_device.proofs.ServingImages.{both_say}
 
 -- The images are left as they are.
@@ -73,6 +82,7 @@ images_stand_kept laws g p are t d old new k s = record {
 pub record Framed (g : Geometry) (m : Meant) (up : Up) (settings : SettingsState) (r : Result Reply UploadFault) (a b : FlashState) : Type 0 where
   pub calls : Calls (bank_spots (settings_of (places_of up.images).first)) (result_end r) a b
   pub spots : spots_for (places_of up.images) (Ok m) ≡ bank_spots (settings_of (places_of up.images).first)
+  pub saved : uses_saved m ≡ true
   pub layout : settings.layout ≡ up.settings.layout
   pub say : IfSome b.bytes (SettingsSay settings)
   pub ages : Told (AgesAtMost 1 (settings_of (places_of up.images).first)) a.bytes b.bytes
@@ -81,9 +91,30 @@ pub record Framed (g : Geometry) (m : Meant) (up : Up) (settings : SettingsState
 abbrev pub with_settings : Up → SettingsState → Up
 with_settings up settings = record { images = up.images; settings = settings; files = up.files; counters = up.counters }
 
+-- It comes to what is saved, and to no image.
+
+saved_idle : (sizes : Sizes) (m : Meant) (up after : Up) (r : Result Reply UploadFault) (a b : FlashState) → uses_saved m ≡ true → Idles sizes (Ok m) up after r a b
+saved_idle sizes m up after r a b is = λ d has images other. absurd (cc (sym other ∙ is))
+
+saved_mounts : (sizes : Sizes) (m : Meant) (before : Images) (r : Replied) (a b : FlashState) → uses_saved m ≡ true → r.images ≡ before → MountsBy sizes (Ok m) before r a b
+saved_mounts sizes meant.load before r a b is e = e
+saved_mounts sizes meant.save before r a b is e = e
+saved_mounts sizes m before r a b is e = absurd (cc is)
+
+saved_erases : (m : Meant) (before : Images) (r : Result Reply UploadFault) (x : Option (List ℕ)) → uses_saved m ≡ true → ErasesBy (Ok m) before r x
+saved_erases meant.load before r x is = tt
+saved_erases meant.save before r x is = tt
+saved_erases m before r x is = absurd (cc is)
+
+saved_pays : DeviceLaws → (m : Result Meant ℕ) (up after : Up) (respond : AbstractDevice → Response) (r : Result Reply UploadFault) (spots : List (ℕ × ℕ)) (a b : FlashState) → Calls spots (result_end r) a b
+    → Told (ReachedFrom (places_of up.images) respond up after r) a.bytes b.bytes → OnOk r (CountedPay up respond a b) → OnOk r (IfOfFlash m (ServicePays up respond a b))
+saved_pays laws m up after respond (Ok reply) spots a b calls reached pays = if_of_flash m (ServicePays up respond a b) (nearer_pays laws up after respond reply a b calls.passes reached pays)
+saved_pays laws m up after respond (Err fault) spots a b calls reached pays = tt
+
 framed_served : DeviceLaws → (g : Geometry) (m : Meant) (up : Up) (settings : SettingsState) (r : Result Reply UploadFault) (a b : FlashState) → IsFor g up.images up.settings → IfSome a.bytes (UpSays up.images up.settings)
-    → Framed g m up settings r a b → Told (ReachedFrom (places_of up.images) (λ d. response_to (sizes_of g) d (Ok m)) up (with_settings up settings) r) a.bytes b.bytes → Serves g (Ok m) up (with_settings up settings) r a b
-framed_served laws g m up settings r a b for says f reached =
+    → Framed g m up settings r a b → Told (ReachedFrom (places_of up.images) (λ d. response_to (sizes_of g) d (Ok m)) up (with_settings up settings) r) a.bytes b.bytes
+    → OnOk r (CountedPay up (λ d. response_to (sizes_of g) d (Ok m)) a b) → Serves g (Ok m) up (with_settings up settings) r a b
+framed_served laws g m up settings r a b for says f reached pays =
     let p = places_of up.images in
     let k = f.calls.keeps in
     record {
@@ -98,6 +129,10 @@ framed_served laws g m up settings r a b for says f reached =
       progress_ages = progress_age g p for.places 5 a.bytes b.bytes k;
       settings_ages = f.ages;
       pending = pending_kept g p for.places a.bytes b.bytes k;
+      untouched = saved_idle (sizes_of g) m up (with_settings up settings) r a b f.saved;
+      mounts = saved_mounts (sizes_of g) m up.images (record { images = up.images; result = r }) a b f.saved refl;
+      erased = saved_erases m up.images r b.bytes f.saved;
+      pays = saved_pays laws (Ok m) up (with_settings up settings) (λ d. response_to (sizes_of g) d (Ok m)) r (bank_spots (settings_of p.first)) a b f.calls reached pays;
     }
 
 -- the layout of the settings is the first image's
@@ -185,6 +220,11 @@ load_reached : DeviceLaws → (g : Geometry) (up : Up) (settings : SettingsState
 load_reached laws g up settings (Ok u) x y e l ok err say = load_told laws g up settings x y e l ok.0 ok.1 say
 load_reached laws g up settings (Err fault) x y e l ok err say = nothing_told g meant.load up settings (of_bank fault) x y e (ap (λ (s : SettingsState). s.running) err)
 
+-- a load counts nowhere
+load_pays : (g : Geometry) (up : Up) (r : Result (Unit {0}) BankFault) (a b : FlashState) → OnOk (bank_reply r) (CountedPay up (λ d. response_to (sizes_of g) d (Ok meant.load)) a b)
+load_pays g up (Ok u) a b = λ region d aim stands carries c. elim c [ inl one ↦ absurd (run_uncounted region d load_settings one) | inr more ↦ absurd more ]
+load_pays g up (Err fault) a b = tt
+
 pub load_served : DeviceLaws → (g : Geometry) (up : Up) (settings : SettingsState) (r : Result (Unit {0}) BankFault) (a b : FlashState) → IsFor g up.images up.settings → IfSome a.bytes (UpSays up.images up.settings)
     → Calls (bank_spots (settings_of up.settings.layout)) (bank_end r) a b → b.bytes ≡ a.bytes → IfSome b.bytes (SettingsSay settings) → settings.layout ≡ up.settings.layout
     → OnOk r ((settings.running ≡ settings.saved) × (settings.bank.sure ≡ true)) → OnErr r (settings ≡ up.settings)
@@ -196,12 +236,14 @@ load_served laws g up settings r a b for says calls kept say layout ok err un fu
     (record {
       calls = calls_as up.settings.layout p.first r a b for.layout calls;
       spots = refl;
+      saved = refl;
       layout = layout;
       say = say;
       ages = Told-same (AgesAtMost 1 (settings_of p.first)) a.bytes b.bytes (λ u. record { kept = omega arith; most = omega arith }) kept;
       caused = load_caused p r a.bytes un fu wo;
     })
     (load_reached laws g up settings r a.bytes b.bytes kept (layout ∙ for.layout) ok err say)
+    (load_pays g up r a b)
 
 -- Save.
 
@@ -284,18 +326,53 @@ save_reached : DeviceLaws → (g : Geometry) (up : Up) (settings : SettingsState
 save_reached laws g up settings (Ok u) x y are k run all either = save_ok laws g up settings x y are k run all
 save_reached laws g up settings (Err fault) x y are k run all either = save_err laws g up settings (of_bank fault) x y are k run either
 
+-- A save counts where something differs from what is saved.
+
+save_aims : (region : Region) (d : AbstractDevice) → IsCounted region d Save → ((Some region ≡ Some regions.Settings) ⊎ (Some region ≡ Some regions.SettingsGate)) × (d.running ≡ d.saved → ⊥)
+save_aims regions.Settings d c = (inl refl, c)
+save_aims regions.SettingsGate d c = (inr refl, c)
+save_aims regions.Any d c = absurd c
+save_aims regions.Slot0 d c = absurd c
+save_aims regions.Slot1 d c = absurd c
+save_aims regions.Progress d c = absurd c
+save_aims regions.ProgressGate d c = absurd c
+save_aims regions.Scratch d c = absurd c
+save_aims regions.Slot2 d c = absurd c
+save_aims regions.Slot3 d c = absurd c
+save_aims regions.Progress2 d c = absurd c
+save_aims regions.Progress2Gate d c = absurd c
+save_aims regions.Scratch2 d c = absurd c
+
+abbrev SavePays : Layout → List Setting → FlashState → FlashState → Option (List ℕ) → Type 0
+SavePays layout running a b x = IfSome x (λ held. (SavedAlready layout running held → ⊥) → AimsAtSettings a.aim → Smaller a.patience b.patience)
+
+save_counted : DeviceLaws → (up : Up) (a b : FlashState) (x : Option (List ℕ)) → SavePays (places_of up.images).first up.settings.running a b x → (d : AbstractDevice) → IsSomeAnd x (Stands (places_of up.images) up.images.target d) → Carries up d
+    → (d.running ≡ d.saved → ⊥) → AimsAtSettings a.aim → Smaller a.patience b.patience
+save_counted laws up a b None f d stands carries differs aims = absurd stands
+save_counted laws up a b (Some u) f d stands carries differs aims =
+    f (λ already. differs (carries.running ∙ laws.one_saved (places_of up.images).first up.settings.running d.saved u already stands.saved)) aims
+
+save_pays : DeviceLaws → (g : Geometry) (up : Up) (r : Result (Unit {0}) BankFault) (a b : FlashState) → OnOk r (SavePays (places_of up.images).first up.settings.running a b a.bytes)
+    → OnOk (bank_reply r) (CountedPay up (λ d. response_to (sizes_of g) d (Ok meant.save)) a b)
+save_pays laws g up (Ok u) a b f = λ region d aim stands carries c. elim c [
+  | inl one ↦ let s = save_aims region d one in save_counted laws up a b a.bytes f d stands carries s.1 (subst AimsAtSettings (sym aim) s.0)
+  | inr more ↦ absurd more
+]
+save_pays laws g up (Err fault) a b f = tt
+
 pub save_served : DeviceLaws → (g : Geometry) (up : Up) (settings : SettingsState) (r : Result (Unit {0}) BankFault) (a b : FlashState) → IsFor g up.images up.settings → IfSome a.bytes (UpSays up.images up.settings)
     → Calls (bank_spots (settings_of up.settings.layout)) (bank_end r) a b → Told (SavedOrThis up.settings.layout up.settings.running) a.bytes b.bytes → OnOk r (IfSome b.bytes (SavedStand up.settings.layout up.settings.running))
     → Told (AgesAtMost 1 (settings_of up.settings.layout)) a.bytes b.bytes → IfSome b.bytes (SettingsSay settings) → settings.layout ≡ up.settings.layout → settings.running ≡ up.settings.running
-    → (IsErrOf r banks.Worn → IfSome a.bytes (IsWorn up.settings.layout)) → (IsErrOf r banks.Unformatted → a.bytes ≡ None) → (IsErrOf r banks.Full → ⊥)
+    → (IsErrOf r banks.Worn → IfSome a.bytes (IsWorn up.settings.layout)) → (IsErrOf r banks.Unformatted → a.bytes ≡ None) → (IsErrOf r banks.Full → ⊥) → OnOk r (SavePays up.settings.layout up.settings.running a b a.bytes)
     → Serves g (Ok meant.save) up (with_settings up settings) (bank_reply r) a b
-save_served laws g up settings r a b for says calls either all ages say layout run wo un fu =
+save_served laws g up settings r a b for says calls either all ages say layout run wo un fu pays =
     let p = places_of up.images in
     let at = calls_as up.settings.layout p.first r a b for.layout calls in
     framed_served laws g meant.save up settings (bank_reply r) a b for says
     (record {
       calls = at;
       spots = refl;
+      saved = refl;
       layout = layout;
       say = say;
       ages = subst (λ (l : Layout). Told (AgesAtMost 1 (settings_of l)) a.bytes b.bytes) for.layout ages;
@@ -304,3 +381,4 @@ save_served laws g up settings r a b for says calls either all ages say layout r
     (save_reached laws g up settings r a.bytes b.bytes for.places at.keeps run
     (subst (λ (l : Layout). OnOk r (IfSome b.bytes (SavedStand l up.settings.running))) for.layout all)
     (subst (λ (l : Layout). Told (SavedOrThis l up.settings.running) a.bytes b.bytes) for.layout either))
+    (save_pays laws g up r a b (subst (λ (l : Layout). OnOk r (SavePays l up.settings.running a b a.bytes)) for.layout pays))

@@ -1,6 +1,6 @@
 -- A start: the settings are read, and then each image is mounted.
 use Rattle.std.proofs.Common.{◌≡◌, ◌⊎◌, inl, inr, ℕ, zero, suc, ◌++◌, Option, Some, None, List, [], ◌∷◌, Result, Ok, Err, refl, sym, ◌∙◌, ap, subst}
-use Rattle.std.specs.Prelude.{IfSome, IfOk}
+use Rattle.std.specs.Prelude.{IfSome, IfOk, IsSomeAnd}
 use Rattle.smp_flash.specs.Area.{Told, Keeps}
 use Rattle.smp_flash.specs.State.{FlashState}
 use Rattle.smp_flash.specs.State.End.{Went}
@@ -155,7 +155,7 @@ unreadable_second laws p l at apart (Some u) (Some v) k f = λ each. f (readable
 worn_second : (p : Places) (l : Layout) → p.second ≡ Some l → (x y : Option (List ℕ)) → Told (Keeps (mount_spots p.first)) x y → IfSome y (IsWorn l) → IfSome x (λ held. WornAt p 0 held ⊎ WornAt p 1 held)
 worn_second p l at None y k w = tt
 worn_second p l at (Some u) None k w = absurd k
-worn_second p l at (Some u) (Some v) k w = inr (subst (λ (o : Option Layout). IfSome o (λ m. (middle : List ℕ) × (Keeps (mount_spots p.first) u middle × IsWorn m middle))) (sym at) (v, (k, w)))
+worn_second p l at (Some u) (Some v) k w = inr (subst (λ (o : Option Layout). IsSomeAnd o (λ m. (middle : List ℕ) × (Keeps (mount_spots p.first) u middle × IsWorn m middle))) (sym at) (v, (k, w)))
 
 -- a mount of image 0 that went through, and then some first steps of image 1's
 abbrev SecondTo : Places → List ℕ → List ℕ → Type 0

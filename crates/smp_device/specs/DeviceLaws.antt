@@ -1,5 +1,5 @@
 -- The laws of the crates below by which a call on some of the device's parts leaves the others.
-use Rattle.std.specs.Prelude.{◌≡◌, ℕ, List}
+use Rattle.std.specs.Prelude.{◌≡◌, ℕ, List, false}
 use Rattle.smp_flash.specs.Area.{Clear, Keeps}
 use Rattle.smp_flash.specs.Layout.{settings_of}
 use Rattle.smp_flash.specs.declared.layout.BankPlace.{BankPlace}
@@ -10,7 +10,8 @@ use Rattle.smp_model.specs.declared.device.Side.{Side}
 use Rattle.smp_model.specs.declared.device.Sizes.{Sizes}
 use Rattle.smp_model.specs.declared.setting.Setting.{Setting}
 use Rattle.smp_model.specs.Does.{does}
-use Rattle.smp_model.specs.Laws.{IsAboutImages, SameBesideImages}
+use Rattle.smp_model.specs.FlashUse.{uses_images, uses_saved}
+use Rattle.smp_model.specs.Laws.{EachStep, IsAboutImages, IsNoSave, IsOffSides, SameBesideImages}
 use Rattle.smp_model.specs.Meant.{Meant}
 use Rattle.smp_model.specs.Steps.{Step, Part}
 use Rattle.smp_settings.specs.Saved.{SavedStand, SettingsSay, SettingsState, saved_in}
@@ -21,6 +22,9 @@ pub record DeviceLaws : Type 0 where
   -- what a request is about
   pub images : (sizes : Sizes) (d e : AbstractDevice) (m : Meant) → IsAboutImages m → Part d (does sizes d m).steps e → SameBesideImages d e
   pub counters : (d e : AbstractDevice) (steps : List Step) → Part d steps e → e.counters ≡ d.counters
+  -- a request that does not come to the flash has no step there
+  pub off_sides : (sizes : Sizes) (d : AbstractDevice) (m : Meant) → uses_images sizes d m ≡ false → EachStep IsOffSides (does sizes d m).steps
+  pub no_save : (sizes : Sizes) (d : AbstractDevice) (m : Meant) → uses_saved m ≡ false → EachStep IsNoSave (does sizes d m).steps
   -- changes outside an image's regions
   pub stand : (layout : Layout) (side : Side) (spots : List (ℕ × ℕ)) (old new : List ℕ) → Apart layout spots → Keeps spots old new → SideStands layout side old → SideStands layout side new
   pub say : (known : Known) (spots : List (ℕ × ℕ)) (old new : List ℕ) → Apart known.layout spots → Keeps spots old new → Says known old → Says known new

@@ -16,3 +16,4 @@ pub mod Handling
 pub mod Showing
 pub mod Starting
 pub mod Formatting
+pub mod Arming

@@ -1,10 +1,11 @@
 -- What a start does: it reads the settings, and then mounts each image.
-use Rattle.std.specs.Prelude.{◌≡◌, ◌⊎◌, ◌++◌, ℕ, zero, suc, List, [], Option, Some, None, Result, Ok, Err, IfErr, IfSome, IfOk, OnOk, option_map}
+use Rattle.std.specs.Prelude.{◌≡◌, ◌⊎◌, ◌++◌, ℕ, zero, suc, List, [], Option, Some, None, Result, Ok, Err, IfErr, IfSome, IfOk, IsSomeAnd, OnOk, option_map}
 use Rattle.smp_flash.specs.Area.{Told, Keeps}
-use Rattle.smp_flash.specs.Calls.{Calls}
+use Rattle.smp_flash.specs.Calls.{Calls, Smaller}
 use Rattle.smp_flash.specs.Layout.{geometry_of, progress_of, settings_of, bank_spots}
 use Rattle.smp_flash.specs.State.{FlashState}
 use Rattle.smp_flash.specs.declared.layout.Layout.{Layout}
+use Rattle.smp_flash.specs.declared.region.Region.{Region}
 use Rattle.smp_gate.specs.Newest.{AgesAtMost}
 use Rattle.smp_model.specs.declared.device.AbstractDevice.{AbstractDevice}
 use Rattle.smp_model.specs.Counters.{no_counters}
@@ -21,6 +22,7 @@ use Rattle.smp_side.specs.Held.{result_end}
 use Rattle.smp_side.specs.declared.held.Held.{Held}
 use Rattle.smp_side.specs.declared.held.Held.TheVariants as helds
 use Rattle.smp_device.specs.Answers.{ImagesReached}
+use Rattle.smp_device.specs.Goings.{BringNearer}
 use Rattle.smp_device.specs.Places.{Places, AtEach, ImagesSay, ImagesStand, spots_of}
 use Rattle.smp_device.specs.Settling.{Settles}
 use Rattle.smp_device.specs.declared.images.Images.{Images}
@@ -58,7 +60,7 @@ StartsOn p (Err fault) old new = (d : AbstractDevice) → Stands p d.target d ol
 -- the record of an image can't take the records that its mount needs, when image 0 was mounted where it is image 1's
 abbrev pub WornAt : Places → (image : ℕ) → List ℕ → Type 0
 WornAt p zero bytes = IsWorn p.first bytes
-WornAt p (suc zero) bytes = IfSome p.second (λ l. (middle : List ℕ) × (Keeps (mount_spots p.first) bytes middle × IsWorn l middle))
+WornAt p (suc zero) bytes = IsSomeAnd p.second (λ l. (middle : List ℕ) × (Keeps (mount_spots p.first) bytes middle × IsWorn l middle))
 WornAt p (suc (suc n)) bytes = ⊥
 
 -- Mounting each image.
@@ -117,6 +119,11 @@ StartCaused p (Err faults.Worn) x = IfSome x (λ held. WornAt p 0 held ⊎ WornA
 StartCaused p (Err (faults.Fault operation)) x = Unit {0}
 StartCaused p (Err faults.Off) x = Unit {0}
 
+-- Where settling the device that the bytes stand for brings what is armed nearer, patience was taken of it.
+abbrev pub StartPays : Places → FlashState → FlashState → Type 0
+StartPays p a b =
+    (region : Region) (d : AbstractDevice) → a.aim ≡ Some region → IsSomeAnd a.bytes (Stands p d.target d) → BringNearer region d (settle_steps d) → Smaller a.patience b.patience
+
 -- The clause of a start.
 pub record Starts (p : Places) (result : Result Begun UploadFault) (a b : FlashState) : Type 0 where
   pub calls : Calls (start_spots p) (result_end result) a b
@@ -125,6 +132,7 @@ pub record Starts (p : Places) (result : Result Begun UploadFault) (a b : FlashS
   pub progress_ages : AtEach (λ l. Told (AgesAtMost 2 (progress_of l)) a.bytes b.bytes) p
   pub settings_ages : Told (AgesAtMost 0 (settings_of p.first)) a.bytes b.bytes
   pub pending : AtEach (λ l. Told (KeepsPending l) a.bytes b.bytes) p
+  pub pays : OnOk result (StartPays p a b)
 
 -- What `open` and `restart` leave.
 

@@ -6,6 +6,7 @@ ghost use Rattle.smp_model.specs.Settings.{stored_form};
 ghost use Rattle.smp_device.specs.Handling.{DeviceSays, Handles};
 ghost use Rattle.smp_device.specs.Showing.{shown_of};
 ghost use Rattle.smp_device.specs.Starting.{Opens, Restarts, start_fault};
+ghost use Rattle.smp_device.specs.Up.{IsWhole};
 
 use crate::answering::{Down, Finished, Handled, answer_packet};
 use crate::images::Images;
@@ -84,6 +85,7 @@ impl Device {
     /// A flash is `Unformatted` exactly where its bytes stand for no device.
     pub fn open<F: Flash>(alloc: Global, flash: &mut F) -> Result<Device, OpenFault>
         ensures opens { Opens result (F.state flash.old) (F.state flash.new) }
+        ensures whole { IfOk result (λ device. IsWhole device.places device.up device.settings) }
         ensures says { IfOk result (λ device. IfSome (F.state flash.new).bytes (DeviceSays device)) }
     {
         let Ok(files) = FileTable::reserve(alloc) else {
@@ -118,6 +120,7 @@ impl Device {
         requires sizes { geometry_of self.old.places.first ≡ (F.state flash.old).geometry }
         ensures restarts { Restarts result self.old.places self.new (F.state flash.old) (F.state flash.new) }
         ensures places { self.new.places ≡ self.old.places }
+        ensures whole { IsWhole self.new.places self.new.up self.new.settings }
         ensures says { IfSome (F.state flash.new).bytes (DeviceSays self.new) }
     {
         self.images = None;
@@ -157,6 +160,7 @@ impl Device {
         requires says { IfSome (F.state flash.old).bytes (DeviceSays self.old) }
         ensures handles { Handles bytes.now self.old self.new out.new.items result (F.state flash.old) (F.state flash.new) }
         ensures places { self.new.places ≡ self.old.places }
+        ensures whole { IsWhole self.new.places self.new.up self.new.settings }
         ensures confirmed { self.new.confirmed ≡ self.old.confirmed }
         ensures says { IfSome (F.state flash.new).bytes (DeviceSays self.new) }
     {

@@ -10,6 +10,7 @@
 #![tactic(auto)]
 
 mod answering;
+mod arming;
 mod device;
 mod formatting;
 mod hashes;
@@ -28,6 +29,7 @@ mod tests;
 mod uploads;
 
 pub use answering::{Down, Handled};
+pub use arming::{arms_are_told, boots_go, packets_go};
 pub use device::{Device, OpenFault};
 pub use formatting::{FormatFault, format, format_two};
 pub use hashes::set;
