@@ -639,6 +639,8 @@ fn a_wrong_digest_gives_the_upload_up(rt: HostRuntime) -> Result<(), Fail> {
     let zeros = start(alloc, 0, 300, &[0; 32], piece(bytes, 0, 100))?;
     let wrong = matched(alloc, 300, false)?;
     let none = offset(alloc, 0)?;
+    let short = part(alloc, 0, 96, None, piece(bytes, 96, 99))?;
+    let nothing = offset(alloc, 0)?;
     let mut flash = one_image(alloc)?;
     follow(
         &rt,
@@ -650,6 +652,7 @@ fn a_wrong_digest_gives_the_upload_up(rt: HostRuntime) -> Result<(), Fail> {
             Event::Asks(last.as_slice(), wrong.as_slice()),
             Event::Still(last.as_slice(), none.as_slice()),
             Event::Boot(NOTHING, Saved::Nothing),
+            Event::Still(short.as_slice(), nothing.as_slice()),
         ],
     );
     Ok(())
@@ -920,6 +923,8 @@ fn a_cut_mark_is_set(rt: HostRuntime) -> Result<(), Fail> {
         pending: Some(Mark::Permanent),
         ..received(1000, Sha256::digest(file.as_slice()), 1000)
     };
+    let test = set(alloc, &NEW_HASH, false)?;
+    let already = error(alloc, 1, 0, 28)?;
     let mut flash = one_image(alloc)?;
     follow(
         &rt,
@@ -933,6 +938,7 @@ fn a_cut_mark_is_set(rt: HostRuntime) -> Result<(), Fail> {
             Event::Armed(cut(Region::Slot1, 2, Left::Whole)),
             Event::Cut(confirm.as_slice()),
             Event::Boot(marked, Saved::Nothing),
+            Event::Still(test.as_slice(), already.as_slice()),
         ],
     );
     Ok(())
@@ -945,6 +951,8 @@ fn no_hash_confirms_the_active_image(rt: HostRuntime) -> Result<(), Fail> {
     let empty = set(alloc, &[], true)?;
     let null = packet(alloc, 0x0a, 1, 0, b"\xa2\x64hash\xf6\x67confirm\xf5")?;
     let alone = list(alloc, &[active(None, true)])?;
+    let hash = set(alloc, &ACTIVE_HASH, true)?;
+    let again = list(alloc, &[active(None, true)])?;
     let mut flash = one_image(alloc)?;
     follow(
         &rt,
@@ -961,6 +969,7 @@ fn no_hash_confirms_the_active_image(rt: HostRuntime) -> Result<(), Fail> {
                 },
                 Saved::Nothing,
             ),
+            Event::Still(hash.as_slice(), again.as_slice()),
         ],
     );
     Ok(())
@@ -1028,6 +1037,8 @@ fn both_images_are_pending(rt: HostRuntime) -> Result<(), Fail> {
         ],
     )?;
     let resumed = offset(alloc, 1000)?;
+    let erase_3 = erase(alloc, 3)?;
+    let no_erase = error(alloc, 1, 5, 9)?;
     let mut flash = two_images(alloc)?;
     follow(
         &rt,
@@ -1053,6 +1064,7 @@ fn both_images_are_pending(rt: HostRuntime) -> Result<(), Fail> {
                 },
                 Saved::Nothing,
             ),
+            Event::Still(erase_3.as_slice(), no_erase.as_slice()),
         ],
     );
     Ok(())
