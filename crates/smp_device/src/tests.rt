@@ -60,8 +60,20 @@ const ABC_HASH: [u8; 32] = [
     0xb0, 0x03, 0x61, 0xa3, 0x96, 0x17, 0x7a, 0x9c, 0xb4, 0x10, 0xff, 0x61, 0xf2, 0x00, 0x15, 0xad,
 ];
 
-/// The settings that are saved at first: none.
-const NONE_SAVED: [u8; 2] = [1, 0];
+/// The settings that are saved: none, or one, whose name is `a` and whose value is 01.
+#[derive(Clone, Copy, Drop)]
+enum Saved {
+    Nothing,
+    One,
+}
+
+/// Their stored form.
+fn form_of(saved: Saved) -> &'static [u8] {
+    match saved {
+        Saved::Nothing => &[1, 0],
+        Saved::One => &[1, 1, 1, b'a', 1, 1],
+    }
+}
 
 type Bytes = Result<Vec<u8>, AllocError>;
 
@@ -376,7 +388,7 @@ enum Event<'a> {
     /// The flash is armed.
     Armed(Arm),
     /// The power comes, and the device is started: it shows this of image 0, and these settings are saved.
-    Boot(Shown, &'a [u8]),
+    Boot(Shown, Saved),
     /// The same of a start that fails.
     Fails(UploadFault),
 }
@@ -459,7 +471,7 @@ fn happens(
         Event::Boot(shown, saved) => {
             assert_eq!(rt; boot(geometry, device, flash), Some(Ok(())), "{i}");
             assert_eq!(rt; device.shown(0), Some(shown), "{i}");
-            assert_eq!(rt; device.saved_form(), saved, "{i}");
+            assert_eq!(rt; device.saved_form(), form_of(saved), "{i}");
         }
         Event::Fails(fault) => {
             assert_eq!(rt; boot(geometry, device, flash), Some(Err(fault)), "{i}");
@@ -514,13 +526,13 @@ fn received(length: u32, digest: [u8; 32], off: u32) -> Shown {
 }
 
 /// A write or an erase that is cut.
-fn cut(region: Region, after: u32, left: Left) -> Event<'static> {
-    Event::Armed(Arm {
+fn cut(region: Region, after: u32, left: Left) -> Arm {
+    Arm {
         kind: ArmKind::Cut,
         region,
         after,
         left,
-    })
+    }
 }
 
 // Formatting and opening.
@@ -627,6 +639,8 @@ fn a_wrong_digest_gives_the_upload_up(rt: HostRuntime) -> Result<(), Fail> {
     let zeros = start(alloc, 0, 300, &[0; 32], piece(bytes, 0, 100))?;
     let wrong = matched(alloc, 300, false)?;
     let none = offset(alloc, 0)?;
+    let short = part(alloc, 0, 96, None, piece(bytes, 96, 99))?;
+    let nothing = offset(alloc, 0)?;
     let mut flash = one_image(alloc)?;
     follow(
         &rt,
@@ -637,7 +651,8 @@ fn a_wrong_digest_gives_the_upload_up(rt: HostRuntime) -> Result<(), Fail> {
             Event::Asks(zeros.as_slice(), begun.as_slice()),
             Event::Asks(last.as_slice(), wrong.as_slice()),
             Event::Still(last.as_slice(), none.as_slice()),
-            Event::Boot(NOTHING, &NONE_SAVED),
+            Event::Boot(NOTHING, Saved::Nothing),
+            Event::Still(short.as_slice(), nothing.as_slice()),
         ],
     );
     Ok(())
@@ -725,9 +740,9 @@ fn a_cut_part_is_sent_again(rt: HostRuntime) -> Result<(), Fail> {
             &mut flash,
             &[
                 Event::Asks(sent.first.as_slice(), sent.at_480.as_slice()),
-                cut(region, 1, left),
+                Event::Armed(cut(region, 1, left)),
                 Event::Cut(sent.next.as_slice()),
-                Event::Boot(received(2000, sent.digest, off), &NONE_SAVED),
+                Event::Boot(received(2000, sent.digest, off), Saved::Nothing),
                 Event::Asks(sent.next.as_slice(), sent.at_960.as_slice()),
             ],
         );
@@ -749,11 +764,11 @@ fn a_cut_rescue_is_made_again(rt: HostRuntime) -> Result<(), Fail> {
             &mut flash,
             &[
                 Event::Asks(sent.first.as_slice(), sent.at_480.as_slice()),
-                cut(Region::Slot1, 1, Left::Whole),
+                Event::Armed(cut(Region::Slot1, 1, Left::Whole)),
                 Event::Cut(sent.next.as_slice()),
-                cut(region, 1, Left::Seed(7)),
+                Event::Armed(cut(region, 1, Left::Seed(7))),
                 Event::Fails(UploadFault::Off),
-                Event::Boot(received(2000, sent.digest, 480), &NONE_SAVED),
+                Event::Boot(received(2000, sent.digest, 480), Saved::Nothing),
                 Event::Asks(sent.next.as_slice(), sent.at_960.as_slice()),
             ],
         );
@@ -774,10 +789,10 @@ fn the_second_gate_is_cut(rt: HostRuntime) -> Result<(), Fail> {
         &mut flash,
         &[
             Event::Asks(sent.first.as_slice(), sent.at_480.as_slice()),
-            cut(Region::ProgressGate, 2, Left::Nothing),
+            Event::Armed(cut(Region::ProgressGate, 2, Left::Nothing)),
             Event::Asks(sent.next.as_slice(), sent.at_960.as_slice()),
             Event::Cut(sent.third.as_slice()),
-            Event::Boot(received(2000, sent.digest, 960), &NONE_SAVED),
+            Event::Boot(received(2000, sent.digest, 960), Saved::Nothing),
         ],
     );
     Ok(())
@@ -800,7 +815,7 @@ fn a_start_is_tried_again(rt: HostRuntime) -> Result<(), Fail> {
                 left: Left::Nothing,
             }),
             Event::Fails(UploadFault::Fault(Operation::Read)),
-            Event::Boot(NOTHING, &NONE_SAVED),
+            Event::Boot(NOTHING, Saved::Nothing),
         ],
     );
     Ok(())
@@ -885,9 +900,9 @@ fn a_cut_mark_is_not_set(rt: HostRuntime) -> Result<(), Fail> {
             Event::Asks(first.as_slice(), at_480.as_slice()),
             Event::Asks(next.as_slice(), at_960.as_slice()),
             Event::Asks(last.as_slice(), whole.as_slice()),
-            cut(Region::Slot1, 2, Left::Nothing),
+            Event::Armed(cut(Region::Slot1, 2, Left::Nothing)),
             Event::Cut(confirm.as_slice()),
-            Event::Boot(unmarked, &NONE_SAVED),
+            Event::Boot(unmarked, Saved::Nothing),
             Event::Asks(test.as_slice(), both.as_slice()),
         ],
     );
@@ -908,6 +923,8 @@ fn a_cut_mark_is_set(rt: HostRuntime) -> Result<(), Fail> {
         pending: Some(Mark::Permanent),
         ..received(1000, Sha256::digest(file.as_slice()), 1000)
     };
+    let test = set(alloc, &NEW_HASH, false)?;
+    let already = error(alloc, 1, 0, 28)?;
     let mut flash = one_image(alloc)?;
     follow(
         &rt,
@@ -918,9 +935,10 @@ fn a_cut_mark_is_set(rt: HostRuntime) -> Result<(), Fail> {
             Event::Asks(first.as_slice(), at_480.as_slice()),
             Event::Asks(next.as_slice(), at_960.as_slice()),
             Event::Asks(last.as_slice(), whole.as_slice()),
-            cut(Region::Slot1, 2, Left::Whole),
+            Event::Armed(cut(Region::Slot1, 2, Left::Whole)),
             Event::Cut(confirm.as_slice()),
-            Event::Boot(marked, &NONE_SAVED),
+            Event::Boot(marked, Saved::Nothing),
+            Event::Still(test.as_slice(), already.as_slice()),
         ],
     );
     Ok(())
@@ -933,6 +951,8 @@ fn no_hash_confirms_the_active_image(rt: HostRuntime) -> Result<(), Fail> {
     let empty = set(alloc, &[], true)?;
     let null = packet(alloc, 0x0a, 1, 0, b"\xa2\x64hash\xf6\x67confirm\xf5")?;
     let alone = list(alloc, &[active(None, true)])?;
+    let hash = set(alloc, &ACTIVE_HASH, true)?;
+    let again = list(alloc, &[active(None, true)])?;
     let mut flash = one_image(alloc)?;
     follow(
         &rt,
@@ -947,8 +967,9 @@ fn no_hash_confirms_the_active_image(rt: HostRuntime) -> Result<(), Fail> {
                     confirmed: true,
                     ..NOTHING
                 },
-                &NONE_SAVED,
+                Saved::Nothing,
             ),
+            Event::Still(hash.as_slice(), again.as_slice()),
         ],
     );
     Ok(())
@@ -1016,6 +1037,8 @@ fn both_images_are_pending(rt: HostRuntime) -> Result<(), Fail> {
         ],
     )?;
     let resumed = offset(alloc, 1000)?;
+    let erase_3 = erase(alloc, 3)?;
+    let no_erase = error(alloc, 1, 5, 9)?;
     let mut flash = two_images(alloc)?;
     follow(
         &rt,
@@ -1039,8 +1062,9 @@ fn both_images_are_pending(rt: HostRuntime) -> Result<(), Fail> {
                         1000,
                     )
                 },
-                &NONE_SAVED,
+                Saved::Nothing,
             ),
+            Event::Still(erase_3.as_slice(), no_erase.as_slice()),
         ],
     );
     Ok(())
@@ -1116,7 +1140,7 @@ fn an_old_record_is_read_and_replaced(rt: HostRuntime) -> Result<(), Fail> {
         ONE,
         &mut flash,
         &[
-            Event::Boot(old, &NONE_SAVED),
+            Event::Boot(old, Saved::Nothing),
             Event::Asks(other.as_slice(), begun.as_slice()),
         ],
     );
@@ -1147,12 +1171,12 @@ fn settings_stay_when_they_are_saved(rt: HostRuntime) -> Result<(), Fail> {
         &mut flash,
         &[
             Event::Still(&write, &written),
-            Event::Boot(NOTHING, &NONE_SAVED),
+            Event::Boot(NOTHING, Saved::Nothing),
             Event::Still(&read, &missing),
             Event::Still(&write, &written),
             Event::Asks(&save, &saved),
             Event::Still(&save, &saved),
-            Event::Boot(NOTHING, &[1, 1, 1, b'a', 1, 1]),
+            Event::Boot(NOTHING, Saved::One),
             Event::Still(&read, &found),
         ],
     );
@@ -1245,7 +1269,7 @@ fn files_are_told(rt: HostRuntime) -> Result<(), Fail> {
         &[
             Event::Still(&write, &stored),
             Event::Still(ask.as_slice(), hash.as_slice()),
-            Event::Boot(NOTHING, &NONE_SAVED),
+            Event::Boot(NOTHING, Saved::Nothing),
             Event::Still(status.as_slice(), gone.as_slice()),
         ],
     );
