@@ -278,9 +278,9 @@ start_done_at laws law g images settings confirmed are target layout running sur
     let begun : Begun = record { images = images; settings = settings; confirmed = confirmed } in
     let r = Ok begun in
     let through = Calls-after (start_spots p) Went a b d (Calls-wider (start_spots p) (bank_spots (settings_of p.first)) Went a b (bank_covered p) calls)
-        (Calls-wider (start_spots p) (spots_of p) Went b d (images_covered p) (Calls-after (spots_of p) Went b c d m.calls read)) in
+    (Calls-wider (start_spots p) (spots_of p) Went b d (images_covered p) (Calls-after (spots_of p) Went b c d m.calls read)) in
     let started = Told-from (StartsOn p r) a.bytes b.bytes d.bytes kept (subst (λ (x : Option (List ℕ)). Told (StartsOn p r) b.bytes x) (sym same)
-        (started_told laws law g images settings confirmed are target m.mounted layout running sure form b.bytes c.bytes k say (λ t. (m.settles t).does) m.says is)) in
+    (started_told laws law g images settings confirmed are target m.mounted layout running sure form b.bytes c.bytes k say (λ t. (m.settles t).does) m.says is)) in
     record {
       calls = through;
       started = started;

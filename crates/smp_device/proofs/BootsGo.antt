@@ -1,5 +1,5 @@
 -- What comes of a boot, by what is armed.
-use Rattle.std.proofs.Common.{◌≡◌, ◌⊎◌, inl, inr, ℕ, zero, suc, ◌+◌, ◌≤◌, ◌<◌, ◌^◌, Bool, true, false, ◌&&◌, if◌then◌else◌, Option, Some, None, List, Result, Ok, Err, refl, sym, ◌∙◌, ap, subst, arith}
+use Rattle.std.proofs.Common.{◌≡◌, ◌⊎◌, inl, inr, ℕ, ◌≤◌, Bool, true, false, if◌then◌else◌, Option, Some, None, List, Result, Ok, Err, refl, sym, ◌∙◌, ap, subst, arith}
 use Rattle.std.specs.Prelude.{IfSome, IsSome, IsSomeAnd, is_some}
 use Rattle.smp_flash.specs.Area.{Keeps}
 use Rattle.smp_flash.specs.Layout.{geometry_of, progress_of, settings_of}
@@ -11,11 +11,9 @@ use Rattle.smp_flash.specs.declared.flash.Operation.{Operation}
 use Rattle.smp_flash.specs.declared.flash.Operation.TheVariants.{Read, Write, Erase}
 use Rattle.smp_flash.specs.declared.geometry.Geometry.{Geometry}
 use Rattle.smp_flash.specs.declared.layout.Layout.{Layout}
-use Rattle.smp_flash.specs.declared.region.Region.{Region}
 use Rattle.smp_gate.specs.Newest.{AgesAtMost, newest_generation}
 use Rattle.smp_model.specs.declared.device.AbstractDevice.{AbstractDevice}
 use Rattle.smp_model.specs.declared.device.Side.{Side}
-use Rattle.smp_model.specs.declared.device.StoredFile.{StoredFile}
 use Rattle.smp_model.specs.declared.device.Upload.{Upload}
 use Rattle.smp_model.specs.declared.setting.Setting.{Setting}
 use Rattle.smp_model.specs.Steps.{applied, settle_steps, side_at, start}
@@ -25,18 +23,17 @@ use Rattle.smp_settings.specs.Saved.{saved_in}
 use Rattle.smp_upload.specs.Bytes.{SideReadable}
 use Rattle.smp_upload.specs.Mounting.{IsWorn}
 use Rattle.smp_upload.specs.Moves.{mount_spots}
-use Rattle.smp_upload.specs.Needs.{MountNeeds, is_unclean, mount_records, upload_records}
+use Rattle.smp_upload.specs.Needs.{is_unclean, mount_records, upload_records}
 use Rattle.smp_upload.specs.declared.states.UploadFault.{UploadFault}
 use Rattle.smp_upload.specs.declared.states.UploadFault.TheVariants as faults
 use Rattle.smp_upload.proofs.Apartness.{ages_clear}
 use Rattle.smp_device.specs.Arming.{Aged, BootComes, IsFresh, IsReady, IsTold, armed_in}
-use Rattle.smp_device.specs.DeviceLaws.{DeviceLaws}
 use Rattle.smp_device.specs.Goings as goings
 use Rattle.smp_device.specs.Goings.{BootEnd, ended_by}
 use Rattle.smp_device.specs.Handling.{DeviceState}
-use Rattle.smp_device.specs.Places.{Places, ArePlaces, AtEach, StandsAt, place_at}
-use Rattle.smp_device.specs.Starting.{IsDown, IsUp, Restarts, StartCaused, Started, Starts, StartsOn, Unstarted, WornAt, begun_of, start_spots}
-use Rattle.smp_device.specs.Up.{Readable, Stands, up_of}
+use Rattle.smp_device.specs.Places.{Places, ArePlaces, StandsAt, place_at}
+use Rattle.smp_device.specs.Starting.{IsDown, IsUp, Restarts, Started, Starts, StartsOn, Unstarted, WornAt, begun_of, start_spots}
+use Rattle.smp_device.specs.Up.{Readable, Stands}
 use Rattle.smp_device.specs.declared.images.Images.{Images}
 use Rattle.smp_device.specs.declared.starting.Begun.{Begun}
 use Rattle.smp_device.proofs.Nearer.{shows_stand}

@@ -134,8 +134,8 @@ any_start laws p begun a b (Some u) (Some v) i j goes f d aim stands moved =
     let here : SidesStand p (start d) v = λ n. shows_stand (place_at n p) (side_at n (start d)) v (shows.sides n) in
     elim (goes.costs aim) [
       | inl same ↦
-        let e : v ≡ u = some_bytes u v (j ∙ same ∙ sym i) in
-        absurd (moved (durable_same laws p d (start d) u stands.images.sides stands.saved (subst (λ (w : List ℕ). SidesStand p (start d) w) e here) (subst (λ (w : List ℕ). SavedStand p.first (start d).saved w) e shows.saved)))
+          let e : v ≡ u = some_bytes u v (j ∙ same ∙ sym i) in
+          absurd (moved (durable_same laws p d (start d) u stands.images.sides stands.saved (subst (λ (w : List ℕ). SidesStand p (start d) w) e here) (subst (λ (w : List ℕ). SavedStand p.first (start d).saved w) e shows.saved)))
       | inr less ↦ less
     ]
 

@@ -1,5 +1,5 @@
 -- What comes of a packet, by what is armed.
-use Rattle.std.proofs.Common.{◌≡◌, ◌⊎◌, inl, inr, ℕ, zero, suc, ◌+◌, ◌-◌, ◌^◌, ◌<◌, Bool, true, false, not, ◌&&◌, Option, Some, None, List, [], ◌∷◌, Result, Ok, Err, refl, sym, ◌∙◌, ap, subst, arith}
+use Rattle.std.proofs.Common.{◌≡◌, ◌⊎◌, inl, inr, ℕ, Bool, true, false, not, ◌&&◌, Option, Some, None, List, [], ◌∷◌, Result, Ok, Err, refl, sym, ◌∙◌, ap, subst, arith}
 use Rattle.std.specs.Prelude.{IfSome, IsSomeAnd, is_some}
 use Rattle.smp_flash.specs.Area.{Told}
 use Rattle.smp_flash.specs.Calls.{Smaller}
@@ -23,7 +23,7 @@ use Rattle.smp_model.specs.declared.reply.Reply.{Reply}
 use Rattle.smp_model.specs.Counters.{after_drop, after_reply}
 use Rattle.smp_model.specs.Does.{does}
 use Rattle.smp_model.specs.FlashUse.{uses_images, uses_saved}
-use Rattle.smp_model.specs.Handled.{is_request, is_reset, response_to}
+use Rattle.smp_model.specs.Handled.{is_request, is_reset}
 use Rattle.smp_model.specs.Laws.{EachStep, IsAboutImages, IsNoSave, IsOffSides}
 use Rattle.smp_model.specs.Meaning.{meaning}
 use Rattle.smp_model.specs.Meant as meant
@@ -35,12 +35,12 @@ use Rattle.smp_settings.specs.Saved.{SettingsState}
 use Rattle.smp_upload.specs.declared.states.UploadFault.{UploadFault}
 use Rattle.smp_upload.specs.declared.states.UploadFault.TheVariants as faults
 use Rattle.smp_device.specs.Answers.{WornSomewhere}
-use Rattle.smp_device.specs.Arming.{Aged, DeviceStands, DropComes, IsFresh, IsReady, IsTelling, IsTold, Left, MessageComes, PacketComes, RequestComes, TellsArmed, answered_by, armed_in, sent_to}
+use Rattle.smp_device.specs.Arming.{Aged, DeviceStands, DropComes, IsFresh, IsReady, IsTelling, MessageComes, PacketComes, RequestComes, TellsArmed, answered_by, armed_in, sent_to}
 use Rattle.smp_device.specs.DeviceLaws.{DeviceLaws}
-use Rattle.smp_device.specs.Goings.{Armed, Went, Goes, BringNearer, AreCounted, IsToldBy, StaysArmed, after_going, durable, group_of}
-use Rattle.smp_device.specs.Handling.{AnswersError, AnswersMeaning, AnswersRequest, DeviceState, Drops, Fell, Finishes, Handles, HandlesBy, HandlesPacket, HandlesUp, Sent, failed_said, flash_group, handled_by, left_by}
+use Rattle.smp_device.specs.Goings.{Went, Goes, BringNearer, AreCounted, IsToldBy, after_going, durable, group_of}
+use Rattle.smp_device.specs.Handling.{AnswersError, AnswersMeaning, DeviceState, Drops, Fell, Finishes, Handles, HandlesBy, HandlesPacket, HandlesUp, Sent, failed_said, flash_group, handled_by, left_by}
 use Rattle.smp_device.specs.Places.{Places, ArePlaces, places_of}
-use Rattle.smp_device.specs.Serving.{CausedBy, IfOfFlash, Reached, ReachedFrom, Serves, ServicePays, spots_by}
+use Rattle.smp_device.specs.Serving.{CausedBy, IfOfFlash, ReachedFrom, Serves, ServicePays, spots_by}
 use Rattle.smp_device.specs.Up.{Up, Stands, Carries, up_of}
 use Rattle.smp_device.specs.Uploads.{sizes_of}
 use Rattle.smp_device.specs.declared.answering.Down.{Down}
@@ -51,7 +51,7 @@ use Rattle.smp_device.proofs.Answered.{held_places}
 use Rattle.smp_device.proofs.Paying.{run_uncounted}
 use Rattle.smp_device.proofs.Reaching.{Use, on_images, on_saved, on_none, use_of, about_images, is_reached, group_same, no_reset, has_images}
 use Rattle.smp_device.proofs.ServingQuietly.{stands_same}
-use Rattle.smp_device.proofs.Strikes.{Stays, Struck, IsStruck, is_told, is_telling, stays_armed, strikes}
+use Rattle.smp_device.proofs.Strikes.{IsStruck, is_told, is_telling, stays_armed, strikes}
 
 -- a relation of told bytes, at bytes
 pub told_at : (P : List ℕ → List ℕ → Type 0) (x y : Option (List ℕ)) (u : List ℕ) → x ≡ Some u → Told P x y → (v : List ℕ) × (y ≡ Some v) × P u v
@@ -189,7 +189,7 @@ ok_came laws g to m up settings files counters images reply d u out left result 
     let r = at.2 d before.stands before.carries in
     let stood = some_at (Stands p up.images.target d) a.bytes u before.bytes before.stands in
     let st = stays_armed (armed_in a) d r.taken a b serves.calls.passes before.telling
-        (λ region aim bring. nearer laws g m up after reply a b serves d stood before.carries region aim (subst (λ (steps : List Step). BringNearer region d steps) r.went.0 bring)) in
+    (λ region aim bring. nearer laws g m up after reply a b serves d stood before.carries region aim (subst (λ (steps : List Step). BringNearer region d steps) r.went.0 bring)) in
     let e = applied r.taken d in
     record {
       went = record { struck = false; taken = r.taken; reply = Some (said_of reply); armed = st.after };

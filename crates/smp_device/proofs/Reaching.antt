@@ -1,5 +1,5 @@
 -- Which requests a trouble in a region can strike.
-use Rattle.std.proofs.Common.{◌≡◌, ℕ, zero, suc, ◌++◌, ◌||◌, Bool, true, false, Option, Some, None, List, [], ◌∷◌, Result, Ok, refl, sym, ◌∙◌, ap, subst}
+use Rattle.std.proofs.Common.{◌≡◌, ℕ, ◌++◌, ◌||◌, Bool, true, false, Option, Some, None, List, [], ◌∷◌, Ok, refl, sym, subst}
 use Rattle.std.specs.Prelude.{IfSome, IsTrue, is_some}
 use Rattle.smp_flash.specs.Layout.{geometry_of, image_of, settings_of, bank_spots, in_settings, in_upload, in_primary}
 use Rattle.smp_flash.specs.Region.{Spares}

@@ -1,5 +1,5 @@
 -- What becomes of what is armed, by how a call on the flash ended.
-use Rattle.std.proofs.Common.{◌≡◌, ℕ, zero, suc, ◌<◌, ◌≤◌, Option, Some, None, List, refl, sym, ◌∙◌, ap, subst, arith}
+use Rattle.std.proofs.Common.{◌≡◌, ℕ, ◌<◌, ◌≤◌, Option, Some, None, List, refl, sym, ◌∙◌, ap, subst, arith}
 use Rattle.smp_flash.specs.Arm.{aim_of, patience_of, troubles_of}
 use Rattle.smp_flash.specs.Calls.{Goes, Lowers, NoGreater, Smaller, Undisturbed}
 use Rattle.smp_flash.specs.Region.{Spares}
@@ -9,7 +9,6 @@ use Rattle.smp_flash.specs.declared.arm.Arm.{Arm}
 use Rattle.smp_flash.specs.declared.arm.ArmKind.{ArmKind}
 use Rattle.smp_flash.specs.declared.arm.ArmKind.TheVariants as arms
 use Rattle.smp_flash.specs.declared.arm.Left.{Left}
-use Rattle.smp_flash.specs.declared.flash.Operation.{Operation}
 use Rattle.smp_flash.specs.declared.flash.Operation.TheVariants.{Read, Write, Erase}
 use Rattle.smp_flash.specs.declared.region.Region.{Region}
 use Rattle.std.specs.Prelude.{option_map}

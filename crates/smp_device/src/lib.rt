@@ -1,4 +1,5 @@
-//! The device that is managed, over a flash that may be cut or fail. So far: its requests about images.
+//! The device that is managed, over a flash that may be cut or fail: `Device` opens it, handles packets and starts it anew. What comes
+//! of a packet and of a start by what is armed in the flash is said by `packets_go` and `boots_go`. Its requests about images are:
 //!
 //! ```text
 //! upload   a part of an upload        erase   an upload is given up, and its slot erased
