@@ -26,3 +26,4 @@ pub mod Strikes
 pub mod Reaching
 pub mod PacketsGo
 pub mod BootsGo
+pub mod Opened

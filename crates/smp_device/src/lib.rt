@@ -1,13 +1,18 @@
-//! The device that is managed, over a flash that may be cut or fail: `Device` opens it, handles packets and starts it anew. What comes
-//! of a packet and of a start by what is armed in the flash is said by `packets_go` and `boots_go`. Its requests about images are:
+//! The device that is managed, over a flash that may be cut or fail within any operation.
 //!
 //! ```text
-//! upload   a part of an upload        erase   an upload is given up, and its slot erased
-//! list     the images                 set     an image is marked to run, or confirmed
+//! format, format_two   give a flash of FF its first content: one image or two, and no settings
+//! Device::open         takes the memory, and starts: the settings are read, and each image is found
+//! Device::handle       answers one packet
+//! Device::restart      starts again
 //! ```
 //!
-//! `Images` holds the side of each image, mounted or not, and the target of parts. Each call takes it, and hands it back with the reply
-//! or the fault that broke the request off.
+//! `handle` is what the definition of the device says (`smp_model`), whatever the flash does (`specs/Handling.antt`). What runs of
+//! a device cite is in `specs/Goings.antt`: what may come of a packet and of a boot, by what is armed in the flash; `packets_go` and
+//! `boots_go` bring `handle` and `restart` there.
+//!
+//! Below it are the requests about images: `Images` holds the side of each image, mounted or not, and the target of parts, and `upload`,
+//! `erase`, `list` and `set` take it and hand it back with the reply, or with the fault that broke the request off.
 #![tactic(auto)]
 
 mod answering;

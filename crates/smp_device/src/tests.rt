@@ -480,6 +480,16 @@ fn happens(
     }
 }
 
+/// Opens a device on a flash of these sizes.
+#[tactic(auto, using(crate::proofs::Opened::opened_sizes))]
+fn opened(alloc: Global, geometry: Geometry, flash: &mut MemFlash) -> Result<Device, OpenFault>
+    requires { (mem_state flash.old).geometry ≡ geometry }
+    ensures sizes { IfOk result (λ device. geometry_of device.places.first ≡ geometry) }
+    ensures says { IfOk result (λ device. IfSome (mem_state flash.new).bytes (DeviceSays device)) }
+{
+    Device::open(alloc, flash)
+}
+
 /// Opens a device, and lets one thing after another happen.
 fn follow(
     rt: &impl Abort,
@@ -491,7 +501,7 @@ fn follow(
     if flash.geometry() != geometry {
         return;
     }
-    let mut device = match Device::open(alloc, flash) {
+    let mut device = match opened(alloc, geometry, flash) {
         Ok(device) => device,
         Err(fault) => {
             assert!(rt; false, "{fault:?}");

@@ -13,7 +13,7 @@ use Rattle.smp_model.specs.Meaning.{meaning}
 use Rattle.smp_model.specs.Meant.{Meant, reset}
 use Rattle.smp_model.specs.Said.{Said, group_error}
 use Rattle.smp_model.specs.Steps.{Step, applied}
-use Rattle.smp_world.specs.Goings.{Armed, durable, Went, Goes, IsToldBy, read_failed, write_failed, erase_failed, group_of, after_going, Booted, after_boot}
+use Rattle.smp_device.specs.Goings.{Armed, durable, Went, Goes, IsToldBy, read_failed, write_failed, erase_failed, group_of, after_going, Booted, after_boot}
 use Rattle.smp_world.specs.Comings.{Came, Comes, after_coming, steps_of_boot, BootsAfter}
 use Rattle.smp_flash.specs.declared.arm.ArmKind.{ArmKind}
 use Rattle.smp_flash.specs.declared.arm.ArmKind.TheVariants as arms

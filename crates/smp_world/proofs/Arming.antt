@@ -13,7 +13,7 @@ use Rattle.smp_model.specs.Meaning.{meaning}
 use Rattle.smp_model.specs.Meant.{Meant}
 use Rattle.smp_model.specs.Said.{Said}
 use Rattle.smp_model.specs.Steps.{Step, OnSide, Save, apply, applied, counted}
-use Rattle.smp_world.specs.Goings.{Armed, armed_by, passes_of, durable, IsCounted, AreCounted, BringNearer, IfOfChanges, StaysHeld, StaysArmed, Went, Goes, after_going, counted_if, Booted, Boots}
+use Rattle.smp_device.specs.Goings.{Armed, armed_by, passes_of, durable, IsCounted, AreCounted, BringNearer, IfOfChanges, StaysHeld, StaysArmed, Went, Goes, after_going, counted_if, Booted, Boots}
 use Rattle.smp_world.specs.Comings.{Came, Comes, steps_of_boot, armed_after, BootsAfter}
 use Rattle.smp_model.specs.Handled.{is_reset}
 use Rattle.smp_world.specs.Laws.{IsNoArm, NoArms, IsOfChanges, Counts, Passed}

@@ -4,7 +4,7 @@ use Rattle.smp_model.specs.declared.device.AbstractDevice.{AbstractDevice}
 use Rattle.smp_model.specs.declared.device.Sizes.{Sizes}
 use Rattle.smp_model.specs.Handled.{response_to, is_reset}
 use Rattle.smp_model.specs.Meant.{Meant, reset}
-use Rattle.smp_world.specs.Goings.{Armed, Went, Goes, Booted}
+use Rattle.smp_device.specs.Goings.{Armed, Went, Goes, Booted}
 use Rattle.smp_world.specs.Comings.{BootsAfter}
 use Rattle.smp_world.proofs.Durably.{means}
 use Rattle.std.specs.Result.{result_ok}

@@ -19,8 +19,8 @@ use Rattle.smp_model.specs.Meant.{Meant}
 use Rattle.smp_model.specs.Said.{Said}
 use Rattle.smp_model.specs.Steps.{Step, Part, applied, settle_steps, start, counted}
 use Rattle.smp_world.specs.Comings.{Came, Comes, BootsAfter, booted_if, after_coming}
-use Rattle.smp_world.specs.Goings as goings
-use Rattle.smp_world.specs.Goings.{Armed, Went, Goes, counted_if, after_going, Booted, BootEnd, Boots, booted_by, after_boot}
+use Rattle.smp_device.specs.Goings as goings
+use Rattle.smp_device.specs.Goings.{Armed, Went, Goes, counted_if, after_going, Booted, BootEnd, Boots, booted_by, after_boot}
 use Rattle.smp_world.specs.Laws.{CanFormat}
 use Rattle.smp_world.specs.Runs.{Event, State, Moment, Run as IsRun, state_at_end, formatted_side, first_state}
 use Rattle.smp_world.proofs.Deeds.{Holds, each_deed}

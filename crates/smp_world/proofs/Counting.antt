@@ -9,7 +9,7 @@ use Rattle.smp_model.specs.Laws.{EachStep}
 use Rattle.smp_model.specs.Meant.{Meant}
 use Rattle.smp_model.specs.Sides.{SideStep}
 use Rattle.smp_model.specs.Steps.{Change, Step, OnSide, Save, Run, apply}
-use Rattle.smp_world.specs.Goings.{reaches, IsCounted, AreCounted, BringNearer}
+use Rattle.smp_device.specs.Goings.{reaches, IsCounted, AreCounted, BringNearer}
 use Rattle.smp_world.specs.Laws.{Counts}
 use Rattle.smp_world.specs.Runs.{Moment}
 

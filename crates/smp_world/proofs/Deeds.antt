@@ -13,7 +13,7 @@ use Rattle.smp_model.specs.Said.{Said}
 use Rattle.smp_model.specs.Steps.{Step}
 use Rattle.smp_jobs.specs.Jobs.{End}
 use Rattle.smp_jobs.specs.Clients.{Client, Turn, client_hears, client_waited}
-use Rattle.smp_world.specs.Goings.{Armed, armed_by, Booted, Boots, after_boot}
+use Rattle.smp_device.specs.Goings.{Armed, armed_by, Booted, Boots, after_boot}
 use Rattle.smp_world.specs.Comings.{Came, Comes, after_coming, steps_of_boot, armed_after, is_boot_struck, is_up}
 use Rattle.smp_world.specs.Lines as lines
 use Rattle.smp_world.specs.Lines.{Line, Did}

@@ -13,7 +13,7 @@ use Rattle.smp_model.specs.Steps.{Step, applied}
 use Rattle.smp_reply.specs.Told as told
 use Rattle.smp_reply.specs.Told.{Told}
 use Rattle.smp_jobs.specs.Clients.{Client, Turn, packet_of, goes_on, with_answer, after_moved, client_hears}
-use Rattle.smp_world.specs.Goings.{durable, Booted, after_going}
+use Rattle.smp_device.specs.Goings.{durable, Booted, after_going}
 use Rattle.smp_world.specs.Comings.{Came, booted_if, is_up_after, armed_after}
 use Rattle.smp_model.specs.Handled.{is_reset}
 use Rattle.smp_jobs.specs.Jobs.{End, next}

@@ -9,7 +9,7 @@ use Rattle.smp_model.specs.Meaning.{meaning}
 use Rattle.smp_model.specs.Meant.{Meant, reset}
 use Rattle.smp_model.specs.Said.{Said}
 use Rattle.smp_model.specs.Steps.{Step, applied}
-use Rattle.smp_world.specs.Goings.{Armed, durable, Went, Goes, IsToldBy, after_going, Booted}
+use Rattle.smp_device.specs.Goings.{Armed, durable, Went, Goes, IsToldBy, after_going, Booted}
 use Rattle.smp_world.specs.Comings.{Came, Comes, steps_of_boot, is_boot_struck}
 use Rattle.smp_model.specs.Handled.{is_reset}
 use Rattle.smp_world.specs.Laws.{TellsTrouble, IsFrontOf}

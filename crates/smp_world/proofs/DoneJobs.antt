@@ -14,7 +14,7 @@ use Rattle.smp_model.specs.Steps.{Step, applied}
 use Rattle.smp_world.specs.Below.{LawsBelow}
 use Rattle.smp_world.proofs.Sides.{along_front}
 use Rattle.smp_jobs.specs.Clients.{Client, Turn, begun, client_hears, client_waited}
-use Rattle.smp_world.specs.Goings.{durable, after_boot}
+use Rattle.smp_device.specs.Goings.{durable, after_boot}
 use Rattle.smp_world.specs.Comings.{after_coming}
 use Rattle.smp_jobs.specs.Jobs.{UploadJob, Job, uploads, End, done, no_answer, refused, mismatch, stalled}
 use Rattle.smp_world.specs.Lines as lines

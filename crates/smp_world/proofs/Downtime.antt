@@ -11,7 +11,7 @@ use Rattle.smp_model.specs.Meaning.{meaning}
 use Rattle.smp_model.specs.Meant.{Meant}
 use Rattle.smp_model.specs.Said.{Said}
 use Rattle.smp_world.specs.Comings.{Came, Comes, is_up, is_up_after, is_boot_struck}
-use Rattle.smp_world.specs.Goings.{Armed, Goes, Booted}
+use Rattle.smp_device.specs.Goings.{Armed, Goes, Booted}
 use Rattle.smp_world.specs.Lines as lines
 use Rattle.smp_world.specs.Lines.{Line, Did}
 use Rattle.smp_world.specs.Runs.{Event, begins, raw, up, down, quiet, arms, boot, Mail, State, Moment, nth, number_of, Happens, RawMessage, RawPacket, RawComes, UpComes, UpNamed, unless_ended, moves, comes_down}

@@ -11,7 +11,7 @@ use Rattle.smp_model.specs.Does.{does}
 use Rattle.smp_model.specs.Meant.{Meant, reset}
 use Rattle.smp_model.specs.Said.{Said}
 use Rattle.smp_model.specs.Steps.{Change, write_setting, delete_setting, load_settings, begin_file, append_file, aim_at, Step, OnSide, Save, Run, side_at, with_side, apply, applied, changed, start, counted}
-use Rattle.smp_world.specs.Goings.{Armed, Durable, durable, Went, Goes, after_going, counted_if, Booted, Boots, BootEnd, ended_by, after_boot, booted_by}
+use Rattle.smp_device.specs.Goings.{Armed, Durable, durable, Went, Goes, after_going, counted_if, Booted, Boots, BootEnd, ended_by, after_boot, booted_by}
 use Rattle.smp_world.specs.Comings.{Came, Comes, after_coming, booted_if, steps_of_boot, BootsAfter}
 use Rattle.smp_model.specs.Handled.{is_reset}
 

@@ -17,7 +17,7 @@ use Rattle.smp_model.specs.Steps.{Step, Run, write_setting, applied}
 use Rattle.smp_reply.specs.declared.answer.Asked.TheVariants as kinds
 use Rattle.smp_reply.specs.Told as told
 use Rattle.smp_reply.specs.Told.{Told}
-use Rattle.smp_world.specs.Goings.{counted_if}
+use Rattle.smp_device.specs.Goings.{counted_if}
 use Rattle.smp_jobs.specs.Jobs.{Next, asks, ends, nth_of_set}
 use Rattle.smp_world.specs.SetJobs.{LacksName, NamesDiffer, AreTexts, HasAll}
 use Rattle.smp_world.specs.Below.{LawsBelow, OnlySaves, StepsAreDue}

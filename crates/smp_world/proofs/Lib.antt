@@ -1,3 +1,5 @@
+mod HandledFlash
+mod HexPieces
 mod Sides
 mod Due
 mod UploadRequests

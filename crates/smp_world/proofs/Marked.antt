@@ -29,7 +29,7 @@ use Rattle.smp_model.specs.Steps.{Step, OnSide, Save, Run, Part, side_at, with_s
 use Rattle.smp_model.specs.Uploads.{differs, is_complete, uploaded_image}
 use Rattle.smp_world.specs.Below.{LawsBelow}
 use Rattle.smp_world.proofs.Sides.{applied_more, found_with, side_other, side_saved, side_changed, same_or_other}
-use Rattle.smp_world.specs.Goings.{Armed, durable, Went, Goes, IsToldBy, group_of}
+use Rattle.smp_device.specs.Goings.{Armed, durable, Went, Goes, IsToldBy, group_of}
 use Rattle.smp_jobs.specs.Jobs as jobs
 use Rattle.smp_jobs.specs.Jobs.{UploadJob, mark_of}
 use Rattle.smp_world.specs.UploadJobs.{announcement_of, upload_of, RunsConfirmed, IsConfirmed, IsMarked}

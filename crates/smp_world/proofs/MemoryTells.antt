@@ -7,7 +7,7 @@ use Rattle.smp_flash.specs.declared.arm.ArmKind.{ArmKind}
 use Rattle.smp_flash.specs.declared.arm.ArmKind.TheVariants as kinds
 use Rattle.smp_flash.specs.declared.arm.Left.{Left}
 use Rattle.smp_flash.specs.declared.region.Region.{Region}
-use Rattle.smp_world.specs.Goings.{armed_by}
+use Rattle.smp_device.specs.Goings.{armed_by}
 use Rattle.smp_world.specs.Telling.{armed_in}
 
 by_kind : (k : ArmKind) (region : Region) (after : ℕ) (left : Left)

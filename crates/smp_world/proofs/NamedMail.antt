@@ -9,8 +9,8 @@ use Rattle.smp_model.specs.declared.device.Sizes.{Sizes}
 use Rattle.smp_model.specs.Handled.{is_request}
 use Rattle.smp_model.specs.Packets.{packet_bytes}
 use Rattle.smp_model.specs.Said.{Said, reply_message}
-use Rattle.smp_world.specs.Goings as goings
-use Rattle.smp_world.specs.Goings.{Booted, BootEnd}
+use Rattle.smp_device.specs.Goings as goings
+use Rattle.smp_device.specs.Goings.{Booted, BootEnd}
 use Rattle.smp_world.specs.Laws.{IsOfClient, HasBytes, NamesSent, NamesSentBy, NamesMail, EachLine}
 use Rattle.smp_world.specs.Lines as lines
 use Rattle.smp_world.specs.Lines.{Line, Did, boot_line_by}

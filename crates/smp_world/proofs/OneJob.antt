@@ -29,7 +29,7 @@ use Rattle.smp_reply.specs.Sendable.{IsSendable}
 use Rattle.smp_reply.specs.Told as told
 use Rattle.smp_reply.specs.Told.{Told}
 use Rattle.smp_jobs.specs.Clients.{Client, packet_of}
-use Rattle.smp_world.specs.Goings.{Armed, Went, Goes, IsToldBy, group_of}
+use Rattle.smp_device.specs.Goings.{Armed, Went, Goes, IsToldBy, group_of}
 use Rattle.smp_jobs.specs.Jobs.{UploadJob, uploads as uploads_job, done, image_key, start_of, part_of}
 use Rattle.smp_world.specs.Runs.{Event, Moment, Run as IsRun, state_at_end, first_state}
 use Rattle.smp_world.specs.UploadJobs.{announcement_of, upload_of, IsWhole, IsUpload, IsDoneBy, IsAmong, AreTagged}

@@ -16,7 +16,7 @@ use Rattle.smp_reply.specs.declared.answer.Asked.{Asked as Kind_of_answer}
 use Rattle.smp_reply.specs.Held.{CanSay}
 use Rattle.smp_reply.specs.Told as told
 use Rattle.smp_jobs.specs.Clients.{Client, goes_on, with_answer}
-use Rattle.smp_world.specs.Goings.{Armed, durable, Booted, after_going}
+use Rattle.smp_device.specs.Goings.{Armed, durable, Booted, after_going}
 use Rattle.smp_world.specs.Comings.{booted_if, Came, Comes, after_coming, is_up_after}
 use Rattle.smp_jobs.specs.Jobs.{UploadJob, Job, uploads, Next, next, mark_of}
 use Rattle.smp_world.specs.Deliveries.{newest, count_of, IsAccepted, HasRoom}

@@ -13,7 +13,7 @@ use Rattle.smp_model.specs.Said.{Said, reply_message}
 use Rattle.smp_model.specs.Steps.{Step, side_at, applied}
 use Rattle.smp_world.specs.Below.{LawsBelow}
 use Rattle.smp_jobs.specs.Clients.{Client, Turn, begun, client_hears, client_waited}
-use Rattle.smp_world.specs.Goings.{Armed, durable, Booted, Boots, after_boot}
+use Rattle.smp_device.specs.Goings.{Armed, durable, Booted, Boots, after_boot}
 use Rattle.smp_world.specs.Comings.{is_boot_struck, is_up}
 use Rattle.smp_jobs.specs.Jobs.{UploadJob, Job, uploads, End, done, start_of}
 use Rattle.smp_world.specs.Deliveries.{newest, count_of, UpOnce, DownOnce, IsOrderly, AreOrderly, NoUpload, GoesWell, IsAccepted, HasRoom}

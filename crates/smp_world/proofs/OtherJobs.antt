@@ -17,7 +17,7 @@ use Rattle.smp_model.specs.Steps.{Step, side_at, on_side, applied, settle_steps,
 use Rattle.smp_world.specs.Below.{LawsBelow}
 use Rattle.smp_reply.specs.Told.{Told}
 use Rattle.smp_jobs.specs.Clients.{Client, begun}
-use Rattle.smp_world.specs.Goings.{durable}
+use Rattle.smp_device.specs.Goings.{durable}
 use Rattle.smp_jobs.specs.Jobs.{UploadJob, Job, uploads, lists, sets, puts, gets, echoes, nth_of_set, next, first_of, first_of_set}
 use Rattle.smp_world.specs.Deliveries.{NoUpload}
 use Rattle.smp_world.specs.Runs.{begins, Mail}

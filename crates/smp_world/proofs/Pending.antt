@@ -13,7 +13,7 @@ use Rattle.smp_model.specs.Meaning.{meaning}
 use Rattle.smp_model.specs.Meant as meant
 use Rattle.smp_model.specs.Meant.{Meant}
 use Rattle.smp_model.specs.Steps.{Step, applied, settle_steps, side_at, start, Part}
-use Rattle.smp_world.specs.Goings.{Armed, Durable, durable, Went, Goes, after_going, Booted, Boots, after_boot}
+use Rattle.smp_device.specs.Goings.{Armed, Durable, durable, Went, Goes, after_going, Booted, Boots, after_boot}
 use Rattle.smp_world.specs.Comings.{Came, Comes, after_coming, booted_if, BootsAfter}
 use Rattle.smp_model.specs.Handled.{is_reset}
 use Rattle.smp_world.specs.Runs.{Event, State, Moment, Run as IsRun, state_at_end}

@@ -12,7 +12,7 @@ use Rattle.smp_model.specs.Meaning.{meaning}
 use Rattle.smp_model.specs.Meant.{Meant}
 use Rattle.smp_model.specs.Said.{Said, group_error}
 use Rattle.smp_model.specs.Steps.{settle_steps}
-use Rattle.smp_world.specs.Goings.{Armed, BringNearer, Went, Goes, IsToldBy, read_failed, write_failed, group_of, reaches, after_going, Booted, Boots, up as is_up, ended_by}
+use Rattle.smp_device.specs.Goings.{Armed, BringNearer, Went, Goes, IsToldBy, read_failed, write_failed, group_of, reaches, after_going, Booted, Boots, up as is_up, ended_by}
 use Rattle.smp_world.specs.Comings.{Came, Comes, BootsAfter}
 use Rattle.smp_world.specs.Runs.{Event, begins, raw, up, down, quiet, arms, boot, Mail, State, Moment, nth, number_of, Happens, Run as IsRun, RawMessage, RawPacket, RawComes, UpComes, UpNamed}
 use Rattle.smp_world.specs.Below.{StepsNeedFlash}

@@ -5,7 +5,7 @@ use Rattle.smp_flash.specs.declared.region.Region.TheVariants as regions
 use Rattle.smp_model.specs.declared.device.AbstractDevice.{AbstractDevice}
 use Rattle.smp_model.specs.Sides.{SideStep}
 use Rattle.smp_model.specs.Steps.{OnSide}
-use Rattle.smp_world.specs.Goings.{IsCounted}
+use Rattle.smp_device.specs.Goings.{IsCounted}
 use Rattle.smp_world.specs.Laws.{image_in}
 
 abbrev some : ℕ → Option ℕ

@@ -13,7 +13,7 @@ use Rattle.smp_model.specs.Meaning.{meaning}
 use Rattle.smp_model.specs.Meant.{Meant, save}
 use Rattle.smp_model.specs.Said.{Said, empty}
 use Rattle.smp_model.specs.Steps.{Change, write_setting, delete_setting, load_settings, begin_file, append_file, aim_at, Step, OnSide, Save, Run, with_side, apply, applied, changed}
-use Rattle.smp_world.specs.Goings.{Armed, Durable, Went, Goes, IsToldBy, after_going, Booted}
+use Rattle.smp_device.specs.Goings.{Armed, Durable, Went, Goes, IsToldBy, after_going, Booted}
 use Rattle.smp_world.specs.Comings.{Came, Comes, after_coming, steps_of_boot, BootsAfter}
 use Rattle.smp_world.specs.Laws.{NothingSaved, IsSave}
 use Rattle.smp_world.specs.Runs.{Event, State, Moment, Run as IsRun, state_at_end}

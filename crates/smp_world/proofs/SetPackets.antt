@@ -14,7 +14,7 @@ use Rattle.smp_model.specs.Meant.{Meant}
 use Rattle.smp_model.specs.Said.{Said, reply_message}
 use Rattle.smp_model.specs.Steps.{Step, applied}
 use Rattle.smp_jobs.specs.Clients.{Client, packet_of}
-use Rattle.smp_world.specs.Goings.{Armed, after_going, Booted}
+use Rattle.smp_device.specs.Goings.{Armed, after_going, Booted}
 use Rattle.smp_world.specs.Comings.{booted_if, Came, Comes, after_coming}
 use Rattle.smp_world.specs.Runs.{Mail, State}
 use Rattle.smp_world.specs.SetJobs.{IsSetJob}

@@ -12,7 +12,7 @@ use Rattle.smp_model.specs.Meant.{Meant, reset}
 use Rattle.smp_model.specs.Said.{Said}
 use Rattle.smp_world.specs.Comings.{BootsAfter, Came, Comes, is_up_after}
 use Rattle.smp_flash.specs.declared.region.Region.{Region}
-use Rattle.smp_world.specs.Goings.{Armed, Goes, Booted, after_going, reaches}
+use Rattle.smp_device.specs.Goings.{Armed, Goes, Booted, after_going, reaches}
 use Rattle.smp_world.specs.Lines as lines
 use Rattle.smp_world.specs.Lines.{Line, Did}
 use Rattle.smp_world.specs.Runs.{Event, begins, raw, up, down, quiet, arms, boot, Mail, State, Moment, nth, number_of, Happens, RawMessage, RawPacket, RawComes, UpComes, UpNamed, unless_ended, moves, comes_down}

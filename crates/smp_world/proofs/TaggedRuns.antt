@@ -18,7 +18,7 @@ use Rattle.smp_model.specs.Steps.{Step, Part, side_at, settle_steps}
 use Rattle.smp_world.specs.Below.{LawsBelow}
 use Rattle.smp_world.proofs.Sides.{along_front}
 use Rattle.smp_jobs.specs.Clients.{Client, Turn, begun, client_hears, client_waited}
-use Rattle.smp_world.specs.Goings.{Armed, Went, Goes}
+use Rattle.smp_device.specs.Goings.{Armed, Went, Goes}
 use Rattle.smp_world.specs.Comings.{Came, Comes, after_coming}
 use Rattle.smp_jobs.specs.Jobs.{UploadJob, Job, uploads, lists, sets, puts, gets, echoes, End}
 use Rattle.smp_world.specs.Lines as lines

@@ -8,7 +8,7 @@ use Rattle.smp_model.specs.Meaning.{meaning}
 use Rattle.smp_model.specs.Meant.{Meant}
 use Rattle.smp_model.specs.Said.{Said}
 use Rattle.smp_model.specs.Steps.{Step, settle_steps}
-use Rattle.smp_world.specs.Goings.{Armed, StaysArmed, Went, Goes, after_going, Booted, Boots, BootEnd, up as is_up}
+use Rattle.smp_device.specs.Goings.{Armed, StaysArmed, Went, Goes, after_going, Booted, Boots, BootEnd, up as is_up}
 use Rattle.smp_world.specs.Comings.{Came, Comes, BootsAfter}
 use Rattle.smp_world.specs.Lines as lines
 use Rattle.smp_world.specs.Laws.{NoArms}

@@ -9,7 +9,7 @@ use Rattle.smp_model.specs.FlashUse.{uses_images, uses_saved}
 use Rattle.smp_model.specs.Laws.{EachStep, IsOffSides, IsNoSave}
 use Rattle.smp_model.specs.Meant.{Meant}
 use Rattle.smp_model.specs.Steps.{Change, write_setting, delete_setting, load_settings, begin_file, append_file, aim_at, Step, OnSide, Save, Run, apply, applied, changed}
-use Rattle.smp_world.specs.Goings.{durable, reaches, IsCounted, AreCounted, BringNearer}
+use Rattle.smp_device.specs.Goings.{durable, reaches, IsCounted, AreCounted, BringNearer}
 use Rattle.smp_world.specs.Below.{StepsNeedFlash}
 use Rattle.smp_world.proofs.Counting.{CountsSaves, CountsSides, Counting, counts_all, counts_saves, counts_sides, counting, none_counted}
 

@@ -15,7 +15,7 @@ use Rattle.smp_model.specs.Response.{after}
 use Rattle.smp_model.specs.Said.{Said}
 use Rattle.smp_model.specs.Steps.{Step, applied, counted, settle_steps, start}
 use Rattle.smp_world.specs.Comings.{Came, Comes, BootsAfter, booted_if, after_coming, steps_of_boot, is_up, is_boot_struck}
-use Rattle.smp_world.specs.Goings.{Armed, counted_if, after_going, Booted, BootEnd, Boots, ended_by, booted_by, after_boot}
+use Rattle.smp_device.specs.Goings.{Armed, counted_if, after_going, Booted, BootEnd, Boots, ended_by, booted_by, after_boot}
 use Rattle.smp_world.specs.Runs.{Event, boot, State, Moment, Happens}
 use Rattle.smp_world.proofs.Calm.{left_false, unstruck, meant, not_reset, no_boot}
 use Rattle.smp_world.proofs.Deeds.{Says, Holds, each_deed}

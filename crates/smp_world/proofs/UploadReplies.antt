@@ -15,7 +15,7 @@ use Rattle.smp_reply.specs.declared.answer.Asked.TheVariants as kinds
 use Rattle.smp_reply.specs.Told as told
 use Rattle.smp_reply.specs.Told.{Told}
 use Rattle.smp_jobs.specs.Clients.{packet_of}
-use Rattle.smp_world.specs.Goings.{Armed, Went, Goes}
+use Rattle.smp_device.specs.Goings.{Armed, Went, Goes}
 use Rattle.smp_jobs.specs.Jobs.{UploadJob, mark_of}
 use Rattle.smp_world.specs.UploadJobs.{IsUpload}
 use Rattle.smp_world.specs.Below.{LawsBelow}

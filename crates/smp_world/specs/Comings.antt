@@ -6,7 +6,7 @@ use Rattle.smp_model.specs.Handled.{is_reset}
 use Rattle.smp_model.specs.Meant.{Meant}
 use Rattle.smp_model.specs.Said.{Said}
 use Rattle.smp_model.specs.Steps.{Step}
-use Rattle.smp_world.specs.Goings.{Armed, Went, Goes, after_going, BootEnd, up, cut, fault, Booted, Boots, after_boot}
+use Rattle.smp_device.specs.Goings.{Armed, Went, Goes, after_going, BootEnd, up, cut, fault, Booted, Boots, after_boot}
 
 -- what came of a packet, and of the boot after it where there was one
 pub record Came : Type 0 where

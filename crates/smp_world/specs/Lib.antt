@@ -1,8 +1,9 @@
 pub mod Below
-pub mod Goings
 pub mod Comings
 pub mod Telling
+pub mod Machines
 pub mod Lines
+pub mod Spelling
 pub mod Runs
 pub mod Unarmed
 pub mod Laws

@@ -9,8 +9,8 @@ use Rattle.smp_model.specs.declared.upload.Mark.{Mark}
 use Rattle.smp_model.specs.declared.upload.Mark.TheVariants as marks
 use Rattle.smp_model.specs.Settings.{stored_form}
 use Rattle.smp_jobs.specs.Jobs.{End, done, no_answer, refused, mismatch, stalled}
-use Rattle.smp_world.specs.Goings as goings
-use Rattle.smp_world.specs.Goings.{BootEnd}
+use Rattle.smp_device.specs.Goings as goings
+use Rattle.smp_device.specs.Goings.{BootEnd}
 
 -- what a client did
 pub data Did : Type 0 where

@@ -15,7 +15,7 @@ use Rattle.smp_model.specs.Said.{Said, reply_message}
 use Rattle.smp_model.specs.Steps.{Step}
 use Rattle.smp_jobs.specs.Jobs.{Job, End, done}
 use Rattle.smp_jobs.specs.Clients.{Client, Turn, begun, client_hears, client_waited}
-use Rattle.smp_world.specs.Goings.{Armed, armed_by, Booted, Boots, after_boot}
+use Rattle.smp_device.specs.Goings.{Armed, armed_by, Booted, Boots, after_boot}
 use Rattle.smp_world.specs.Comings.{is_up, Came, Comes, after_coming, is_up_after, steps_of_boot, armed_after, is_boot_struck}
 use Rattle.smp_world.specs.Lines as lines
 use Rattle.smp_world.specs.Lines.{Line, Did, Fate, boot_line_by, lines_text, last_text}

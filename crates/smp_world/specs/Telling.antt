@@ -4,7 +4,7 @@ use Rattle.smp_flash.specs.declared.arm.ArmKind.{ArmKind}
 use Rattle.smp_flash.specs.declared.arm.ArmKind.TheVariants as arms
 use Rattle.smp_flash.specs.declared.region.Region.{Region}
 use Rattle.smp_flash.specs.State.{Troubles}
-use Rattle.smp_world.specs.Goings.{Armed}
+use Rattle.smp_device.specs.Goings.{Armed}
 
 -- the kind of the trouble that may still come
 abbrev pub kind_in : Troubles → Option ArmKind

@@ -7,9 +7,9 @@ use Rattle.smp_model.specs.Handled.{is_request, response_to, is_reset}
 use Rattle.smp_model.specs.Meaning.{meaning}
 use Rattle.smp_model.specs.Meant.{Meant}
 use Rattle.smp_model.specs.Steps.{settle_steps}
-use Rattle.smp_world.specs.Goings.{Went, Booted, BootEnd, after_going, armed_by}
+use Rattle.smp_device.specs.Goings.{Went, Booted, BootEnd, after_going, armed_by}
 use Rattle.smp_world.specs.Comings.{Came}
-use Rattle.smp_world.specs.Goings as goings
+use Rattle.smp_device.specs.Goings as goings
 use Rattle.smp_world.specs.Lines as lines
 use Rattle.smp_world.specs.Runs.{Event, begins, raw, up, down, quiet, arms, boot, Mail, State, Moment, nth, number_of, still, drops, moment_of, raw_fate, up_fate, state_after, state_after_up, client_begins, comes_down, is_quiet, moment_booted, state_booted}
 

@@ -27,7 +27,7 @@ ghost use Rattle.smp_schedule.specs.Schedules.{Schedule};
 ghost use Rattle.smp_schedule.specs.declared.job.JobWords.TheVariants.{Set as SetWords, Upload as UploadWords};
 ghost use Rattle.smp_world.specs.Below.{LawsBelow};
 ghost use Rattle.smp_world.specs.Deliveries.{AreAccepted, AreOrderly, GoesWell, HasRoom, IsDoneSoon, NoUpload, delivered, enough_packets};
-ghost use Rattle.smp_world.specs.Goings.{IsCounted, armed_by, durable};
+ghost use Rattle.smp_device.specs.Goings.{IsCounted, armed_by, durable};
 ghost use Rattle.smp_world.specs.Laws.{CanFormat, EachLine, IsFrontOf, IsOfChanges, IsSave, KeepsNumbers, NamesMail, NoArms, NothingSaved, Passed, TellsTrouble, acknowledged_after, image_in};
 ghost use Rattle.smp_world.specs.Lines.{lines_text};
 ghost use Rattle.smp_world.specs.Runs.{Event, Happens, Moment, Run, State, arms, begins, boot, first_state, formatted, nth, raw, state_at_end, transcript};

@@ -17,6 +17,11 @@
 
 mod examples;
 mod laws;
+mod machine;
+mod printing;
+#[cfg(test)]
+mod tests;
+mod world;
 
 pub use examples::{
     a_replay_for_example, boots_for_example, clients_for_example, raw_packets_for_example,
@@ -33,3 +38,4 @@ pub use laws::{
     tagged_uploads_are_of_their_files, told_files_fix_a_replay, unarmed_runs_are_functions,
     unstruck_moments_are_whole,
 };
+pub use world::{World, WorldCounts};
