@@ -91,6 +91,7 @@ impl Settings {
         ensures most_read { IfSome (F.state flash.old).bytes (λ held. ReadsAtMost 8208 (F.state flash.old).bytes_read (F.state flash.new).bytes_read) }
         ensures changes { ChangesAtMost 0 0 (F.state flash.old).changes (F.state flash.new).changes }
         ensures settings { IfOk result (λ s. (s.layout ≡ layout.now) × (s.bank.sure ≡ true) × (s.running ≡ s.saved)) }
+        ensures form { IfOk result (λ s. s.form ≡ stored_form s.saved) }
         ensures says { IfOk result (λ s. IfSome (F.state flash.new).bytes (SettingsSay s)) }
 
         // Exactly where the content gives no map: on Ok it gives one, by `says`.
@@ -429,6 +430,7 @@ fn opened(layout: Layout, found: Found) -> Settings
     ensures bank { result.bank ≡ found.bank }
     ensures saved { result.saved ≡ found.saved }
     ensures running { result.running ≡ found.saved }
+    ensures form { result.form ≡ stored_form result.saved }
 {
     let mut form = ArrayVec::new();
     write_form(&found.saved, &mut form);
