@@ -22,7 +22,7 @@ use Rattle.smp_progress.specs.State.{CanTake}
 use Rattle.smp_settings.specs.Saved.{saved_in}
 use Rattle.smp_upload.specs.Bytes.{SideReadable}
 use Rattle.smp_upload.specs.Mounting.{IsWorn}
-use Rattle.smp_upload.specs.Moves.{mount_spots}
+use Rattle.smp_upload.specs.Moves.{KeepsPending, mount_spots}
 use Rattle.smp_upload.specs.Needs.{is_unclean, mount_records, upload_records}
 use Rattle.smp_upload.specs.declared.states.UploadFault.{UploadFault}
 use Rattle.smp_upload.specs.declared.states.UploadFault.TheVariants as faults
@@ -31,7 +31,7 @@ use Rattle.smp_device.specs.Arming.{Aged, BootComes, IsFresh, IsReady, IsTold, a
 use Rattle.smp_device.specs.Goings as goings
 use Rattle.smp_device.specs.Goings.{BootEnd, ended_by}
 use Rattle.smp_device.specs.Handling.{DeviceState}
-use Rattle.smp_device.specs.Places.{Places, ArePlaces, StandsAt, place_at}
+use Rattle.smp_device.specs.Places.{Places, ArePlaces, AtEach, StandsAt, place_at}
 use Rattle.smp_device.specs.Starting.{IsDown, IsUp, Restarts, Started, Starts, StartsOn, Unstarted, WornAt, begun_of, start_spots}
 use Rattle.smp_device.specs.Up.{Readable, Stands}
 use Rattle.smp_device.specs.declared.images.Images.{Images}
@@ -110,6 +110,9 @@ starts_aged p r a b u v e f starts = record {
   settings = told_both (AgesAtMost 0 (settings_of p.first)) a.bytes b.bytes u v e f starts.settings_ages;
 }
 
+starts_pending : (p : Places) (r : Result Begun UploadFault) (a b : FlashState) (u v : List ℕ) → a.bytes ≡ Some u → b.bytes ≡ Some v → Starts p r a b → AtEach (λ l. KeepsPending l u v) p
+starts_pending p r a b u v e f starts = λ i l at. told_both (KeepsPending l) a.bytes b.bytes u v e f (starts.pending i l at)
+
 -- It went through.
 
 started_stands : (p : Places) (d : AbstractDevice) (begun : Begun) (bytes : List ℕ) → Started p d begun bytes → Stands p (start d).target (start d) bytes
@@ -139,6 +142,7 @@ up_comes new d u a b told stands f =
               (s.shows.target_is, record { running = sym s.running; files = sym f.files; counters = sym f.counters });
         };
         aged = starts_aged p (Ok begun) a b u at.0 told.bytes_are at.1 f.starts;
+        pending = starts_pending p (Ok begun) a b u at.0 told.bytes_are at.1 f.starts;
         sizes = f.starts.calls.passes.geometry;
         armed_is = is_told st.after b st.told;
         telling = is_telling st.after b st.told;
@@ -178,6 +182,7 @@ failed_comes new operation d u a b told stands f =
         bytes = at.1;
         stands = record { stands = down_stands p d at.0 s; up = subst (λ (o : Option Images). Holds new.settings new.files new.counters (applied s.taken d) o) (sym f.down) tt };
         aged = starts_aged p (Err (faults.Fault operation)) a b u at.0 told.bytes_are at.1 f.starts;
+        pending = starts_pending p (Err (faults.Fault operation)) a b u at.0 told.bytes_are at.1 f.starts;
         sizes = f.starts.calls.passes.geometry;
         armed_is = is_told None b struck.gone;
         telling = is_telling None b struck.gone;
@@ -201,6 +206,7 @@ cut_comes new d u a b told stands f =
         bytes = at.1;
         stands = record { stands = down_stands p d at.0 s; up = subst (λ (o : Option Images). Holds new.settings new.files new.counters (applied s.taken d) o) (sym f.down) tt };
         aged = starts_aged p (Err faults.Off) a b u at.0 told.bytes_are at.1 f.starts;
+        pending = starts_pending p (Err faults.Off) a b u at.0 told.bytes_are at.1 f.starts;
         sizes = f.starts.calls.passes.geometry;
         armed_is = is_told None b struck.gone;
         telling = is_telling None b struck.gone;

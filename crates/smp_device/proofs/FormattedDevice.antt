@@ -1,11 +1,11 @@
 -- A flash of FF is formatted: each image stands in its places, and the settings bank holds none.
-use Rattle.std.proofs.Common.{◌≡◌, ◌⊎◌, inl, inr, ℕ, zero, suc, ◌+◌, ◌-◌, ◌*◌, ◌<◌, ◌≤◌, Bool, true, false, Option, Some, None, List, [], ◌∷◌, ◌++◌, length, refl, sym, ◌∙◌, ap, subst, arith}
+use Rattle.std.proofs.Common.{◌≡◌, inl, inr, ℕ, zero, suc, ◌+◌, ◌-◌, ◌<◌, ◌≤◌, Option, Some, None, List, [], ◌∷◌, ◌++◌, refl, sym, ◌∙◌, ap, subst, arith}
 use Rattle.std.specs.Prelude.{IfSome}
 use Rattle.std.specs.Str.{bytes_eq}
 use Rattle.smp_flash.specs.Area.{area, blank, Clear, Keeps, Told}
 use Rattle.smp_flash.specs.Calls.{Calls}
-use Rattle.smp_flash.specs.Geometry.{slot_size, size_of, first_size, second_size, Regular}
-use Rattle.smp_flash.specs.Layout.{geometry_of, image_of, slot_of, progress_of, settings_of, bank_spots, bank_at, area_spot, upload_spots}
+use Rattle.smp_flash.specs.Geometry.{slot_size, size_of, Regular}
+use Rattle.smp_flash.specs.Layout.{geometry_of, image_of, slot_of, progress_of, settings_of, bank_spots, bank_at}
 use Rattle.smp_flash.specs.Region.{slot_at, progress_at, settings_at}
 use Rattle.smp_flash.specs.State.{FlashState, End}
 use Rattle.smp_flash.specs.State.End.{Went}
@@ -14,9 +14,8 @@ use Rattle.smp_flash.specs.declared.layout.Layout.{Layout}
 use Rattle.smp_flash.proofs.Areas.{area-blank, Keeps-wider}
 use Rattle.smp_flash.proofs.Passing.{Covers-trans, Calls-after, Calls-wider}
 use Rattle.smp_flash.proofs.Sizes.{regular}
-use Rattle.smp_flash.proofs.Telling.{Told-after, Told-map, Told-trans, IfSome-map}
+use Rattle.smp_flash.proofs.Telling.{Told-after, IfSome-map}
 use Rattle.smp_gate.specs.Newest.{Fresh, content_of}
-use Rattle.smp_model.specs.declared.device.Side.{Side}
 use Rattle.smp_model.specs.Steps.{side_at}
 use Rattle.smp_progress.specs.Cells as cells
 use Rattle.smp_progress.specs.Cells.{HasRecord, GivesRecord}
@@ -27,9 +26,9 @@ use Rattle.smp_slot.specs.Marks.{mark_in}
 use Rattle.smp_upload.specs.Bytes.{Apart, SideStands}
 use Rattle.smp_upload.specs.Moves.{mount_spots}
 use Rattle.smp_device.specs.DeviceLaws.{DeviceLaws}
-use Rattle.smp_device.specs.Formatting.{IsErased, StandsFormatted, format_spots, formatted, formatted_side, primary_spots, second_spots}
+use Rattle.smp_device.specs.Formatting.{IsErased, StandsFormatted, format_spots, formatted, formatted_side, primary_spots}
 use Rattle.smp_device.specs.Places.{Places, StandsAt, place_at}
-use Rattle.smp_device.specs.Up.{AllPlaces, Stands}
+use Rattle.smp_device.specs.Up.{AllPlaces}
 use Rattle.smp_device.specs.Uploads.{sizes_of}
 use Rattle.smp_device.proofs.Frames.{apart_one, apart_zero, clear_of_first, clear_of_second}
 use Rattle.smp_device.proofs.Parting.{Covers-left, Covers-right, apart_first, apart_second, first_start, second_start}

@@ -32,6 +32,7 @@ use Rattle.smp_model.specs.Said as said
 use Rattle.smp_model.specs.Said.{Said, said_of, is_error}
 use Rattle.smp_model.specs.Steps.{Change, write_setting, delete_setting, load_settings, begin_file, append_file, aim_at, Step, OnSide, Save, Run, apply, applied, changed, counted}
 use Rattle.smp_settings.specs.Saved.{SettingsState}
+use Rattle.smp_upload.specs.Moves.{KeepsPending}
 use Rattle.smp_upload.specs.declared.states.UploadFault.{UploadFault}
 use Rattle.smp_upload.specs.declared.states.UploadFault.TheVariants as faults
 use Rattle.smp_device.specs.Answers.{WornSomewhere}
@@ -39,7 +40,7 @@ use Rattle.smp_device.specs.Arming.{Aged, DeviceStands, DropComes, IsFresh, IsRe
 use Rattle.smp_device.specs.DeviceLaws.{DeviceLaws}
 use Rattle.smp_device.specs.Goings.{Went, Goes, BringNearer, AreCounted, IsToldBy, after_going, durable, group_of}
 use Rattle.smp_device.specs.Handling.{AnswersError, AnswersMeaning, DeviceState, Drops, Fell, Finishes, Handles, HandlesBy, HandlesPacket, HandlesUp, Sent, failed_said, flash_group, handled_by, left_by}
-use Rattle.smp_device.specs.Places.{Places, ArePlaces, places_of}
+use Rattle.smp_device.specs.Places.{Places, ArePlaces, AtEach, places_of}
 use Rattle.smp_device.specs.Serving.{CausedBy, IfOfFlash, ReachedFrom, Serves, ServicePays, spots_by}
 use Rattle.smp_device.specs.Up.{Up, Stands, Carries, up_of}
 use Rattle.smp_device.specs.Uploads.{sizes_of}
@@ -156,6 +157,7 @@ pub record Came (g : Geometry) (to : Message) (mm : Result Meant ℕ) (up : Up) 
   pub stands : Stands (places_of up.images) (after_going went d).target (after_going went d) held
   pub holds : Holds settings files counters (after_going went d) left
   pub aged : Aged (places_of up.images) 5 1 u held
+  pub pending : AtEach (λ l. KeepsPending l u held) (places_of up.images)
   pub sizes : b.geometry ≡ a.geometry
   pub told : TellsArmed went.armed b
   pub on : b.on ≡ is_some went.reply
@@ -174,6 +176,13 @@ serves_aged g m up after fate a b u v e f serves = record {
   progress = λ i l at. told_both (AgesAtMost 5 (progress_of l)) a.bytes b.bytes u v e f (serves.progress_ages i l at);
   settings = told_both (AgesAtMost 1 (settings_of (places_of up.images).first)) a.bytes b.bytes u v e f serves.settings_ages;
 }
+
+-- what is pending stays
+serves_pending : (g : Geometry) (m : Meant) (up after : Up) (fate : Result Reply UploadFault) (a b : FlashState) (u v : List ℕ) → a.bytes ≡ Some u → b.bytes ≡ Some v → Serves g (Ok m) up after fate a b → AtEach (λ l. KeepsPending l u v) (places_of up.images)
+serves_pending g m up after fate a b u v e f serves = λ i l at. told_both (KeepsPending l) a.bytes b.bytes u v e f (serves.pending i l at)
+
+pub same_pending : (p : Places) (u : List ℕ) → AtEach (λ l. KeepsPending l u u) p
+same_pending p u = λ i l at. record { kept = λ is. refl; still = λ is. refl }
 
 pub not_aged : (p : Places) (records saves : ℕ) (u : List ℕ) → Aged p records saves u u
 not_aged p records saves u = record { progress = λ i l at. record { kept = omega arith; most = omega arith }; settings = record { kept = omega arith; most = omega arith } }
@@ -203,6 +212,7 @@ ok_came laws g to m up settings files counters images reply d u out left result 
       holds = subst (λ (o : Option Images). Holds settings files counters (counted (said_of reply) e) o) (sym sent.left_is)
           (holds_by settings files counters (counted (said_of reply) e) images (is_reset (Ok m)) r.stands.images.target_is (carries_counted images settings files up.counters counters e (is_error (said_of reply)) sent.counted r.carries));
       aged = serves_aged g m up after (Ok reply) a b u at.0 before.bytes at.1 serves;
+      pending = serves_pending g m up after (Ok reply) a b u at.0 before.bytes at.1 serves;
       sizes = serves.calls.passes.geometry;
       told = st.told;
       on = serves.calls.passes.on ∙ before.on;
@@ -257,6 +267,7 @@ failed_came g to m up settings files counters images operation d u out left resu
       holds = subst (λ (o : Option Images). Holds settings files counters (counted reply e) o) (sym sent.left_is)
           (holds_by settings files counters (counted reply e) images false r.stands.images.target_is (carries_counted images settings files up.counters counters e true sent.counted r.carries));
       aged = serves_aged g m up after (Err (faults.Fault operation)) a b u at.0 before.bytes at.1 serves;
+      pending = serves_pending g m up after (Err (faults.Fault operation)) a b u at.0 before.bytes at.1 serves;
       sizes = serves.calls.passes.geometry;
       told = s.gone;
       on = serves.calls.passes.on;
@@ -295,6 +306,7 @@ cut_came g to m up settings files counters images d u out left result a b before
       stands = stands_own p images.target (applied r.taken d) at.0 r.stands;
       holds = subst (λ (o : Option Images). Holds settings files counters (applied r.taken d) o) (sym f.left_is) tt;
       aged = serves_aged g m up after (Err faults.Off) a b u at.0 before.bytes at.1 serves;
+      pending = serves_pending g m up after (Err faults.Off) a b u at.0 before.bytes at.1 serves;
       sizes = serves.calls.passes.geometry;
       told = s.gone;
       on = serves.calls.passes.off;
@@ -349,6 +361,7 @@ error_came g to number up settings files counters d u out left result a b before
       holds = subst (λ (o : Option Images). Holds settings files counters (counted reply d) o) (sym f.sent.left_is)
           (before.stands.images.target_is, carries_counted up.images settings files up.counters counters d true f.sent.counted carries);
       aged = not_aged p 5 1 u;
+      pending = same_pending p u;
       sizes = ap (λ (x : FlashState). x.geometry) f.flash;
       told = subst (λ (x : FlashState). TellsArmed st.after x) (sym f.flash) st.told;
       on = ap (λ (x : FlashState). x.on) f.flash ∙ before.on;
@@ -391,6 +404,7 @@ request_comes to old new images d u out result a b same was c = record {
       up = c.holds;
     };
     aged = subst (λ (p : Places). Aged p 5 1 u c.held) (sym was) c.aged;
+    pending = subst (λ (p : Places). AtEach (λ l. KeepsPending l u c.held) p) (sym was) c.pending;
     sizes = c.sizes;
     armed_is = is_told c.went.armed b c.told;
     telling = is_telling c.went.armed b c.told;
@@ -422,6 +436,7 @@ drop_comes old new d u out result a b r f = record {
     bytes = ap (λ (x : FlashState). x.bytes) f.flash ∙ r.told.bytes_are;
     stands = subst (λ (s : DeviceState). DeviceStands s (record d { counters = after_drop d.counters }) u) (sym f.device) (drop_stands old d u r.stands);
     aged = not_aged old.places 0 0 u;
+    pending = same_pending old.places u;
     sizes = ap (λ (x : FlashState). x.geometry) f.flash;
     armed_is = ap armed_in f.flash;
     telling = subst IsTelling (sym f.flash) r.told.telling;

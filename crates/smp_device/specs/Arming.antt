@@ -13,6 +13,7 @@ use Rattle.smp_model.specs.Handled.{is_request, is_reset}
 use Rattle.smp_model.specs.Meaning.{meaning}
 use Rattle.smp_model.specs.Said.{Said, reply_bytes}
 use Rattle.smp_progress.specs.State.{CanTake}
+use Rattle.smp_upload.specs.Moves.{KeepsPending}
 use Rattle.smp_upload.specs.declared.states.UploadFault.{UploadFault}
 use Rattle.smp_upload.specs.declared.states.UploadFault.TheVariants as faults
 use Rattle.smp_device.specs.Goings as goings
@@ -112,12 +113,13 @@ pub record Aged (p : Places) (records saves : ℕ) (old new : List ℕ) : Type 0
   pub settings : AgesAtMost saves (settings_of p.first) old new
 
 -- What value and flash are after it: they stand for this device, and the flash tells what is armed then; it is on where power
--- stayed, and of the same sizes.
+-- stayed, and of the same sizes. A secondary slot that was pending before has the same bytes, and is pending as it was.
 pub record Left (p : Places) (records saves : ℕ) (before : List ℕ) (armed : Option Armed) (powered : Bool) (new : DeviceState) (d : AbstractDevice) (a b : FlashState) : Type 0 where
   pub held : List ℕ
   pub bytes : b.bytes ≡ Some held
   pub stands : DeviceStands new d held
   pub aged : Aged p records saves before held
+  pub pending : AtEach (λ l. KeepsPending l before held) p
   pub sizes : b.geometry ≡ a.geometry
   pub armed_is : armed_in b ≡ armed
   pub telling : IsTelling b

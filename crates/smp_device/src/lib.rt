@@ -11,8 +11,9 @@
 //! a device cite is in `specs/Goings.antt`: what may come of a packet and of a boot, by what is armed in the flash; `packets_go` and
 //! `boots_go` bring `handle` and `restart` there.
 //!
-//! Below it are the requests about images: `Images` holds the side of each image, mounted or not, and the target of parts, and `upload`,
-//! `erase`, `list` and `set` take it and hand it back with the reply, or with the fault that broke the request off.
+//! Below it, within the crate, are the requests about images (`uploads.rt`, `lists.rt`, `hashes.rt`): `Images` holds the side of each
+//! image, mounted or not, and the target of parts. Each request takes it and hands it back with the reply, or with the fault that broke
+//! it off.
 #![tactic(auto)]
 
 mod answering;
@@ -38,10 +39,5 @@ pub use answering::{Down, Handled};
 pub use arming::{arms_are_told, boots_go, packets_go};
 pub use device::{Device, OpenFault};
 pub use formatting::{FormatFault, format, format_two};
-pub use hashes::set;
-pub use images::{Images, Replied, SideRequest};
-pub use lists::list;
 pub use showing::Shown;
-pub use side_requests::ask_image;
 pub use smp_upload::UploadFault as StartFault;
-pub use uploads::{erase, upload};

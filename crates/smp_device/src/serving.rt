@@ -9,8 +9,8 @@ ghost use Rattle.smp_model.specs.declared.device.StoredFile.{StoredFile as Store
 ghost use Rattle.smp_model.specs.Meant as meant;
 ghost use Rattle.smp_model.specs.Meant.{meant_of};
 ghost use Rattle.smp_model.specs.Said.{said_of};
-ghost use Rattle.smp_model.specs.Settings.{is_setting_name};
 ghost use Rattle.smp_settings.specs.Saved.{SettingsState};
+ghost use Rattle.smp_device.specs.Places.{ArePlaces, ImagesSay, places_of};
 ghost use Rattle.smp_device.specs.Serving.{Serves, bank_reply, changes, of_bank, setting_reply};
 ghost use Rattle.smp_device.specs.Telling.{Fitting};
 ghost use Rattle.smp_device.specs.Up.{IsFor, UpSays, up_of};
@@ -19,14 +19,14 @@ use crate::hashes::set;
 use crate::images::{Images, Replied};
 use crate::laws::device_laws;
 use crate::lists::list;
+use crate::telling::{file_error, is_setting_name, setting_error};
 use crate::uploads::{erase, upload};
 use smp_files::{FileFault, FileTable};
 use smp_flash::Flash;
 use smp_gate::BankFault;
 use smp_model::error::{
-    FILE_GROUP, FILE_NAME_LENGTH, FILE_TOO_LONG, INVALID_VALUE, NO_FREE_FILE, NO_SUCH_FILE,
-    NO_SUCH_SETTING, PAST_FILE_END, SETTING_NAME_LENGTH, SETTING_VALUE_LENGTH, SETTINGS_FULL,
-    SETTINGS_GROUP,
+    FILE_NAME_LENGTH, FILE_TOO_LONG, INVALID_VALUE, NO_FREE_FILE, NO_SUCH_FILE, NO_SUCH_SETTING,
+    PAST_FILE_END, SETTING_NAME_LENGTH, SETTING_VALUE_LENGTH, SETTINGS_FULL,
 };
 use smp_model::{Reply, Request, UploadPart};
 use smp_settings::{SettingFault, Settings};
@@ -84,16 +84,6 @@ fn save<F: Flash>(images: Images, settings: &mut Settings, flash: &mut F) -> Rep
     }
 }
 
-/// An error of the settings group.
-fn setting_error(number: u32) -> Reply<'static>
-    ensures { result ≡ Reply.GroupError 3 number }
-{
-    Reply::GroupError {
-        group: SETTINGS_GROUP,
-        number,
-    }
-}
-
 /// The answer to a write that ended so.
 fn setting_reply(answer: Result<(), SettingFault>) -> Reply<'static>
     ensures reply { result ≡ setting_reply answer }
@@ -120,13 +110,6 @@ fn write_setting(images: Images, settings: &mut Settings, name: &str, val: &[u8]
     }
 }
 
-/// The name of a setting has 1 to 32 bytes.
-fn is_setting_name(name: &str) -> bool
-    ensures { result ≡ is_setting_name name.now }
-{
-    0 < name.len() && name.len() <= 32
-}
-
 /// A running setting is deleted.
 fn delete_setting(images: Images, settings: &mut Settings, name: &str) -> Replied
     ensures serves { (g : Sizes) (files : List Stored) (counters : Counters) (a : FlashState) → IfSome a.bytes (UpSays images settings.old)
@@ -148,16 +131,6 @@ fn delete_setting(images: Images, settings: &mut Settings, name: &str) -> Replie
     Replied {
         images,
         result: Ok(setting_error(NO_SUCH_SETTING)),
-    }
-}
-
-/// An error of the file group.
-fn file_error(number: u32) -> Reply<'static>
-    ensures { result ≡ Reply.GroupError 8 number }
-{
-    Reply::GroupError {
-        group: FILE_GROUP,
-        number,
     }
 }
 
@@ -198,61 +171,50 @@ fn write_file(
 }
 
 /// Lists the images.
-fn serve_list<F: Flash>(images: Images, settings: &Settings, flash: &mut F) -> Replied
-    requires regions { IsFor (F.state flash.old).geometry images settings.now }
-    requires says { IfSome (F.state flash.old).bytes (UpSays images settings.now) }
-    ensures serves { (files : List Stored) (counters : Counters) → Serves (F.state flash.old).geometry (Ok meant.image_list) (up_of images settings.now files counters) (up_of result.images settings.now files counters) result.result (F.state flash.old) (F.state flash.new) }
+fn serve_list<F: Flash>(images: Images, flash: &mut F) -> Replied
+    requires places { ArePlaces (F.state flash.old).geometry (places_of images) }
+    requires says { IfSome (F.state flash.old).bytes (ImagesSay images) }
+    ensures serves { (settings : SettingsState) (files : List Stored) (counters : Counters) → IsFor (F.state flash.old).geometry images settings → IfSome (F.state flash.old).bytes (UpSays images settings)
+        → Serves (F.state flash.old).geometry (Ok meant.image_list) (up_of images settings files counters) (up_of result.images settings files counters) result.result (F.state flash.old) (F.state flash.new) }
     ensures fits { IfOk result.result (λ reply. Fitting (said_of reply)) }
 {
     device_laws();
-    let _settings = settings;
     list(images, flash)
 }
 
 /// Marks or confirms an image.
-fn serve_set<F: Flash>(
-    images: Images,
-    settings: &Settings,
-    flash: &mut F,
-    hash: Option<&[u8]>,
-    confirm: bool,
-) -> Replied
-    requires regions { IsFor (F.state flash.old).geometry images settings.now }
-    requires says { IfSome (F.state flash.old).bytes (UpSays images settings.now) }
-    ensures serves { (files : List Stored) (counters : Counters) → Serves (F.state flash.old).geometry (Ok (meant.image_set (option_map (λ h. h.now) hash.entry) confirm)) (up_of images settings.now files counters) (up_of result.images settings.now files counters) result.result (F.state flash.old) (F.state flash.new) }
+fn serve_set<F: Flash>(images: Images, flash: &mut F, hash: Option<&[u8]>, confirm: bool) -> Replied
+    requires places { ArePlaces (F.state flash.old).geometry (places_of images) }
+    requires says { IfSome (F.state flash.old).bytes (ImagesSay images) }
+    ensures serves { (settings : SettingsState) (files : List Stored) (counters : Counters) → IsFor (F.state flash.old).geometry images settings → IfSome (F.state flash.old).bytes (UpSays images settings)
+        → Serves (F.state flash.old).geometry (Ok (meant.image_set (option_map (λ h. h.now) hash.entry) confirm)) (up_of images settings files counters) (up_of result.images settings files counters) result.result (F.state flash.old) (F.state flash.new) }
     ensures fits { IfOk result.result (λ reply. Fitting (said_of reply)) }
 {
     device_laws();
-    let _settings = settings;
     set(images, flash, hash, confirm)
 }
 
 /// Takes a part of an upload.
-fn serve_upload<F: Flash>(
-    images: Images,
-    settings: &Settings,
-    flash: &mut F,
-    part: &UploadPart<'_>,
-) -> Replied
-    requires regions { IsFor (F.state flash.old).geometry images settings.now }
-    requires says { IfSome (F.state flash.old).bytes (UpSays images settings.now) }
-    ensures serves { (files : List Stored) (counters : Counters) → Serves (F.state flash.old).geometry (Ok (meant.upload part.now.image part.now.len part.now.off (option_map (λ s. s.now) part.now.sha) part.now.bytes.now)) (up_of images settings.now files counters) (up_of result.images settings.now files counters) result.result (F.state flash.old) (F.state flash.new) }
+fn serve_upload<F: Flash>(images: Images, flash: &mut F, part: &UploadPart<'_>) -> Replied
+    requires places { ArePlaces (F.state flash.old).geometry (places_of images) }
+    requires says { IfSome (F.state flash.old).bytes (ImagesSay images) }
+    ensures serves { (settings : SettingsState) (files : List Stored) (counters : Counters) → IsFor (F.state flash.old).geometry images settings → IfSome (F.state flash.old).bytes (UpSays images settings)
+        → Serves (F.state flash.old).geometry (Ok (meant.upload part.now.image part.now.len part.now.off (option_map (λ s. s.now) part.now.sha) part.now.bytes.now)) (up_of images settings files counters) (up_of result.images settings files counters) result.result (F.state flash.old) (F.state flash.new) }
     ensures fits { IfOk result.result (λ reply. Fitting (said_of reply)) }
 {
     device_laws();
-    let _settings = settings;
     upload(images, flash, part)
 }
 
 /// Gives an upload up.
-fn serve_erase<F: Flash>(images: Images, settings: &Settings, flash: &mut F, slot: u32) -> Replied
-    requires regions { IsFor (F.state flash.old).geometry images settings.now }
-    requires says { IfSome (F.state flash.old).bytes (UpSays images settings.now) }
-    ensures serves { (files : List Stored) (counters : Counters) → Serves (F.state flash.old).geometry (Ok (meant.erase slot)) (up_of images settings.now files counters) (up_of result.images settings.now files counters) result.result (F.state flash.old) (F.state flash.new) }
+fn serve_erase<F: Flash>(images: Images, flash: &mut F, slot: u32) -> Replied
+    requires places { ArePlaces (F.state flash.old).geometry (places_of images) }
+    requires says { IfSome (F.state flash.old).bytes (ImagesSay images) }
+    ensures serves { (settings : SettingsState) (files : List Stored) (counters : Counters) → IsFor (F.state flash.old).geometry images settings → IfSome (F.state flash.old).bytes (UpSays images settings)
+        → Serves (F.state flash.old).geometry (Ok (meant.erase slot)) (up_of images settings files counters) (up_of result.images settings files counters) result.result (F.state flash.old) (F.state flash.new) }
     ensures fits { IfOk result.result (λ reply. Fitting (said_of reply)) }
 {
     device_laws();
-    let _settings = settings;
     erase(images, flash, slot)
 }
 
@@ -272,10 +234,10 @@ pub fn serve<F: Flash>(
     ensures fits { IfOk result.result (λ reply. Fitting (said_of reply)) }
 {
     match request {
-        Request::ImageList => serve_list(images, settings, flash),
-        Request::ImageSet { hash, confirm } => serve_set(images, settings, flash, *hash, *confirm),
-        Request::Upload(part) => serve_upload(images, settings, flash, part),
-        Request::Erase { slot } => serve_erase(images, settings, flash, *slot),
+        Request::ImageList => serve_list(images, flash),
+        Request::ImageSet { hash, confirm } => serve_set(images, flash, *hash, *confirm),
+        Request::Upload(part) => serve_upload(images, flash, part),
+        Request::Erase { slot } => serve_erase(images, flash, *slot),
         Request::SettingWrite { name, val } => write_setting(images, settings, name, val),
         Request::SettingDelete { name } => delete_setting(images, settings, name),
         Request::Load => load(images, settings, flash),

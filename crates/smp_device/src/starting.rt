@@ -107,8 +107,6 @@ pub fn begin<F: Flash>(
         Ok(settings) => settings,
         Err(fault) => return Err(of_bank(fault)),
     };
-    // The form that it lends is that of what is saved.
-    let _form = settings.saved_form();
     let images = match mount_images(first, second, flash) {
         Ok(images) => images,
         Err(fault) => return Err(fault),

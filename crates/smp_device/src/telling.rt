@@ -1,4 +1,4 @@
-//! Requests that are answered from memory, and change nothing.
+//! Replies from memory, to requests that change nothing.
 
 ghost use Rattle.std.specs.Prelude.{◌≡◌, ◌≤◌, drop, take, length, option_map};
 ghost use Rattle.sha2.specs.Sha256.{sha256};
@@ -23,8 +23,9 @@ use smp_settings::Settings;
 const READ_SIZE: usize = 1024;
 
 /// An error of the settings group.
-fn refused_setting<'a>(number: u32) -> Reply<'a>
-    ensures { said_of result ≡ (refuses_setting number).reply }
+pub fn setting_error<'a>(number: u32) -> Reply<'a>
+    ensures reply { result ≡ Reply.GroupError SETTINGS_GROUP number }
+    ensures said { said_of result ≡ (refuses_setting number).reply }
 {
     Reply::GroupError {
         group: SETTINGS_GROUP,
@@ -33,8 +34,9 @@ fn refused_setting<'a>(number: u32) -> Reply<'a>
 }
 
 /// An error of the file group.
-fn refused_file<'a>(number: u32) -> Reply<'a>
-    ensures { said_of result ≡ (refuses_file number).reply }
+pub fn file_error<'a>(number: u32) -> Reply<'a>
+    ensures reply { result ≡ Reply.GroupError FILE_GROUP number }
+    ensures said { said_of result ≡ (refuses_file number).reply }
 {
     Reply::GroupError {
         group: FILE_GROUP,
@@ -43,8 +45,8 @@ fn refused_file<'a>(number: u32) -> Reply<'a>
 }
 
 /// The name of a setting has 1 to 32 bytes.
-fn is_setting_name(name: &str) -> bool
-    ensures { result ≡ is_setting_name name.now }
+pub fn is_setting_name(name: &str) -> bool
+    ensures named { result ≡ is_setting_name name.now }
 {
     0 < name.len() && name.len() <= 32
 }
@@ -84,10 +86,10 @@ pub fn read_setting<'a>(settings: &'a Settings, name: &str, size: Option<u32>) -
     ensures fits { Fitting (said_of result) }
 {
     if !is_setting_name(name) {
-        return refused_setting(SETTING_NAME_LENGTH);
+        return setting_error(SETTING_NAME_LENGTH);
     }
     match settings.read(name) {
-        None => refused_setting(NO_SUCH_SETTING),
+        None => setting_error(NO_SUCH_SETTING),
         Some(val) => Reply::Setting(value_of(val, size)),
     }
 }
@@ -122,7 +124,7 @@ fn part_of(off: u32, held: &[u8]) -> Reply<'_>
     ensures fits { Fitting (said_of result) }
 {
     if off as usize > held.len() {
-        return refused_file(PAST_FILE_END);
+        return file_error(PAST_FILE_END);
     }
     Reply::FilePart {
         off,
@@ -137,10 +139,10 @@ pub fn read_file<'a>(files: &'a FileTable, name: &str, off: u32) -> Reply<'a>
     ensures fits { Fitting (said_of result) }
 {
     if !is_file_name(name) {
-        return refused_file(FILE_NAME_LENGTH);
+        return file_error(FILE_NAME_LENGTH);
     }
     match files.read(name) {
-        None => refused_file(NO_SUCH_FILE),
+        None => file_error(NO_SUCH_FILE),
         Some(held) => part_of(off, held),
     }
 }
@@ -151,10 +153,10 @@ pub fn file_length<'a>(files: &FileTable, name: &str) -> Reply<'a>
     ensures fits { Fitting (said_of result) }
 {
     if !is_file_name(name) {
-        return refused_file(FILE_NAME_LENGTH);
+        return file_error(FILE_NAME_LENGTH);
     }
     match files.read(name) {
-        None => refused_file(NO_SUCH_FILE),
+        None => file_error(NO_SUCH_FILE),
         Some(held) => Reply::FileLength(held.len() as u32),
     }
 }
@@ -188,10 +190,10 @@ fn hash_of<'a>(kind: Option<&str>, off: u32, len: Option<u32>, held: &[u8]) -> R
     ensures fits { Fitting (said_of result) }
 {
     if !is_sha256(kind) {
-        return refused_file(NO_SUCH_HASH);
+        return file_error(NO_SUCH_HASH);
     }
     if off as usize > held.len() {
-        return refused_file(PAST_FILE_END);
+        return file_error(PAST_FILE_END);
     }
     let bytes = bytes_from(off, len, held);
     Reply::FileHash {
@@ -213,10 +215,10 @@ pub fn file_hash<'a>(
     ensures fits { Fitting (said_of result) }
 {
     if !is_file_name(name) {
-        return refused_file(FILE_NAME_LENGTH);
+        return file_error(FILE_NAME_LENGTH);
     }
     match files.read(name) {
-        None => refused_file(NO_SUCH_FILE),
+        None => file_error(NO_SUCH_FILE),
         Some(held) => hash_of(kind, off, len, held),
     }
 }

@@ -1,5 +1,4 @@
-use Rattle.std.proofs.Common.{arith, refl, sym, ap, ◌∙◌}
-use Rattle.smp_flash.specs.Layout.{geometry_of, image_of}
+use Rattle.std.proofs.Common.{arith, refl, ap}
 use Rattle.smp_device.proofs.FormattedSide.{put_calls, made_calls, told_fresh, told_side}
 use Rattle.smp_device.proofs.formatting.write_image.Goals as goal
 

@@ -9,22 +9,22 @@ use Rattle.smp_device.proofs.serving.serve.Goals as goal
 pub returns-in-ImageList-clause-serves : goal.returns-in-ImageList-clause-serves
 returns-in-ImageList-clause-serves g c = λ counters.
     meant_as (g.F.Flash.state c.args.flash.now).geometry meant.image_list (meant_of c.args.request.now) (up_of c.args.images c.args.settings.now c.args.files.now counters) (up_of c.serve_list.result.images c.args.settings.now c.args.files.now counters) c.serve_list.result.result (g.F.Flash.state c.args.flash.now) (g.F.Flash.state c.serve_list.new.flash) (ap meant_of c.in-ImageList.is)
-    (c.serve_list.ensures.serves c.args.files.now counters)
+    (c.serve_list.ensures.serves c.args.settings.now c.args.files.now counters c.requires.regions c.requires.says)
 
 pub returns-in-ImageSet-clause-serves : goal.returns-in-ImageSet-clause-serves
 returns-in-ImageSet-clause-serves g c = λ counters.
     meant_as (g.F.Flash.state c.args.flash.now).geometry (meant.image_set (option_map (λ h. h.now) c.in-ImageSet.hash) c.in-ImageSet.confirm) (meant_of c.args.request.now) (up_of c.args.images c.args.settings.now c.args.files.now counters) (up_of c.serve_set.result.images c.args.settings.now c.args.files.now counters) c.serve_set.result.result (g.F.Flash.state c.args.flash.now) (g.F.Flash.state c.serve_set.new.flash) (ap meant_of c.in-ImageSet.is)
-    (c.serve_set.ensures.serves c.args.files.now counters)
+    (c.serve_set.ensures.serves c.args.settings.now c.args.files.now counters c.requires.regions c.requires.says)
 
 pub returns-in-Upload-clause-serves : goal.returns-in-Upload-clause-serves
 returns-in-Upload-clause-serves g c = λ counters.
     meant_as (g.F.Flash.state c.args.flash.now).geometry (meant.upload c.in-Upload.part.image c.in-Upload.part.len c.in-Upload.part.off (option_map (λ s. s.now) c.in-Upload.part.sha) c.in-Upload.part.bytes.now) (meant_of c.args.request.now) (up_of c.args.images c.args.settings.now c.args.files.now counters) (up_of c.serve_upload.result.images c.args.settings.now c.args.files.now counters) c.serve_upload.result.result (g.F.Flash.state c.args.flash.now) (g.F.Flash.state c.serve_upload.new.flash) (ap meant_of c.in-Upload.is)
-    (c.serve_upload.ensures.serves c.args.files.now counters)
+    (c.serve_upload.ensures.serves c.args.settings.now c.args.files.now counters c.requires.regions c.requires.says)
 
 pub returns-in-Erase-clause-serves : goal.returns-in-Erase-clause-serves
 returns-in-Erase-clause-serves g c = λ counters.
     meant_as (g.F.Flash.state c.args.flash.now).geometry (meant.erase c.in-Erase.slot) (meant_of c.args.request.now) (up_of c.args.images c.args.settings.now c.args.files.now counters) (up_of c.serve_erase.result.images c.args.settings.now c.args.files.now counters) c.serve_erase.result.result (g.F.Flash.state c.args.flash.now) (g.F.Flash.state c.serve_erase.new.flash) (ap meant_of c.in-Erase.is)
-    (c.serve_erase.ensures.serves c.args.files.now counters)
+    (c.serve_erase.ensures.serves c.args.settings.now c.args.files.now counters c.requires.regions c.requires.says)
 
 pub returns-in-SettingWrite-clause-serves : goal.returns-in-SettingWrite-clause-serves
 returns-in-SettingWrite-clause-serves g c = λ counters.
