@@ -82,7 +82,7 @@ all_erased layout z x e = IfSome-map (λ held. held ≡ blank (size_of (geometry
 
 -- What an image's calls leave of it.
 
-keeps_mount : (layout : Layout) (u v : List ℕ) → Keeps (primary_spots (geometry_of layout) (image_of layout)) u v → Keeps (mount_spots layout) u v
+pub keeps_mount : (layout : Layout) (u v : List ℕ) → Keeps (primary_spots (geometry_of layout) (image_of layout)) u v → Keeps (mount_spots layout) u v
 keeps_mount layout u v k = Keeps-wider (primary_spots (geometry_of layout) (image_of layout)) (mount_spots layout) u v narrow k
   where
     narrow : (p n : ℕ) → Clear (mount_spots layout) p n → Clear (primary_spots (geometry_of layout) (image_of layout)) p n
@@ -206,7 +206,7 @@ no_second g (Some l) w one are =
     let image = are.1 in
     absurd (omega (arith, there, images, image))
 
-both_told : (P Q R : List ℕ → Type 0) (y : Option (List ℕ)) → ((w : List ℕ) → P w → Q w → R w) → IfSome y P → IfSome y Q → IfSome y R
+pub both_told : (P Q R : List ℕ → Type 0) (y : Option (List ℕ)) → ((w : List ℕ) → P w → Q w → R w) → IfSome y P → IfSome y Q → IfSome y R
 both_told P Q R None f p q = tt
 both_told P Q R (Some w) f p q = f w p q
 

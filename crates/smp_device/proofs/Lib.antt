@@ -22,6 +22,7 @@ pub mod Beginnings
 pub mod Answered
 pub mod FormattedSide
 pub mod FormattedDevice
+pub mod FormattedBanks
 pub mod Strikes
 pub mod Reaching
 pub mod PacketsGo

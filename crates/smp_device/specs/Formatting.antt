@@ -3,13 +3,14 @@ use Rattle.std.specs.Prelude.{◌≡◌, ◌⊎◌, ℕ, ◌-◌, ◌≤◌, ◌
 use Rattle.smp_flash.specs.Area.{area, blank}
 use Rattle.smp_flash.specs.Calls.{Calls}
 use Rattle.smp_flash.specs.Geometry.{slot_size}
-use Rattle.smp_flash.specs.Layout.{bank_at, bank_spots, progress_of, slot_of}
+use Rattle.smp_flash.specs.Layout.{bank_at, bank_spots, progress_of, settings_of, slot_of}
 use Rattle.smp_flash.specs.Region.{slot_at, progress_at, settings_at}
 use Rattle.smp_flash.specs.State.{FlashState, End}
 use Rattle.smp_flash.specs.State.End.{Went, WentOff, Failed}
 use Rattle.smp_flash.specs.declared.geometry.Geometry.{Geometry}
+use Rattle.smp_flash.specs.declared.layout.BankPlace.{BankPlace}
 use Rattle.smp_flash.specs.declared.layout.Layout.{Layout}
-use Rattle.smp_gate.specs.Newest.{Fresh}
+use Rattle.smp_gate.specs.Newest.{Fresh, newest_generation}
 use Rattle.smp_model.specs.declared.device.AbstractDevice.{AbstractDevice}
 use Rattle.smp_model.specs.declared.device.Side.{Side}
 use Rattle.smp_model.specs.declared.device.Sizes.{Sizes}
@@ -17,7 +18,7 @@ use Rattle.smp_model.specs.declared.image.ImageFault.{ImageFault}
 use Rattle.smp_model.specs.declared.image.ImageFault.TheVariants as bad
 use Rattle.smp_model.specs.Counters.{no_counters}
 use Rattle.smp_model.specs.Image.{image_of, good_image}
-use Rattle.smp_device.specs.Places.{Places}
+use Rattle.smp_device.specs.Places.{AtEach, Places}
 use Rattle.smp_device.specs.Up.{AllPlaces, Stands}
 use Rattle.smp_device.specs.Uploads.{sizes_of}
 use Rattle.smp_device.specs.declared.formatting.FormatFault.{FormatFault}
@@ -111,8 +112,20 @@ FormatCaused room image second result a b = Fits room image × IfSome second (Fi
 abbrev pub StandsFormatted : Geometry → List ℕ → Option (List ℕ) → List ℕ → Type 0
 StandsFormatted g image second bytes = (p : Places) → AllPlaces g p → Stands p 0 (formatted (sizes_of g) image second) bytes
 
+-- Each bank is of generation 1, as it was made.
+abbrev pub IsOfFirstGeneration : BankPlace → List ℕ → Type 0
+IsOfFirstGeneration place bytes = newest_generation place bytes ≡ 1
+
+pub record AreOfFirstGeneration (p : Places) (bytes : List ℕ) : Type 0 where
+  pub progress : AtEach (λ l. IsOfFirstGeneration (progress_of l) bytes) p
+  pub settings : IsOfFirstGeneration (settings_of p.first) bytes
+
+abbrev pub BanksFormatted : Geometry → List ℕ → Type 0
+BanksFormatted g bytes = (p : Places) → AllPlaces g p → AreOfFirstGeneration p bytes
+
 -- The clause of a call that formats a flash of FF with these images.
 pub record Formats (image : List ℕ) (second : Option (List ℕ)) (result : Result (Unit {0}) FormatFault) (a b : FlashState) : Type 0 where
   pub calls : Calls (format_spots a.geometry second) (format_end result) a b
   pub caused : FormatCaused (room_of a.geometry) image second result a b
   pub stands : OnOk result (IfSome b.bytes (StandsFormatted a.geometry image second))
+  pub generations : OnOk result (IfSome b.bytes (BanksFormatted a.geometry))

@@ -4,18 +4,18 @@ ghost use Rattle.std.specs.Prelude.{◌≡◌, ◌≢◌, ◌⊎◌, ◌≤◌, 
 ghost use Rattle.smp_flash.specs.Area.{blank};
 ghost use Rattle.smp_flash.specs.Calls.{Calls};
 ghost use Rattle.smp_flash.specs.Geometry.{size_of};
-ghost use Rattle.smp_flash.specs.Layout.{geometry_of, image_of, settings_of, bank_spots};
+ghost use Rattle.smp_flash.specs.Layout.{geometry_of, image_of, progress_of, settings_of, bank_spots};
 ghost use Rattle.smp_flash.specs.State.{fault_end};
 ghost use Rattle.smp_gate.specs.Fault.{bank_fault_end};
 ghost use Rattle.smp_gate.specs.Newest.{Fresh};
 ghost use Rattle.smp_settings.specs.Saved.{SavedStand};
 ghost use Rattle.smp_upload.specs.Bytes.{SideStands};
-ghost use Rattle.smp_device.specs.Formatting.{Fits, Formats, IsErased, IsOfFlash, Misfits, SecondMisfits, StandsFormatted, format_end, format_spots, formatted_side, primary_spots, room_of};
+ghost use Rattle.smp_device.specs.Formatting.{BanksFormatted, Fits, Formats, IsErased, IsOfFirstGeneration, IsOfFlash, Misfits, SecondMisfits, StandsFormatted, format_end, format_spots, formatted_side, primary_spots, room_of};
 ghost use Rattle.smp_device.specs.Uploads.{sizes_of};
 
 use crate::laws::device_laws;
 use smp_flash::{CallFault, Flash, Layout, Operation};
-use smp_gate::{BankFault, banks_fit};
+use smp_gate::{BankFault, bank_says_what_stands, banks_fit};
 use smp_model::{ImageFault, images_end};
 use smp_progress::Progress;
 use smp_settings::Settings;
@@ -92,7 +92,9 @@ fn write_image<F: Flash>(layout: &Layout, flash: &mut F, image: &[u8]) -> Result
     ensures calls { Calls (primary_spots (geometry_of layout.now) (image_of layout.now)) (format_end result) (F.state flash.old) (F.state flash.new) }
     ensures flash { IfErr result IsOfFlash }
     ensures stands { OnOk result (IfSome (F.state flash.new).bytes (SideStands layout.now (formatted_side (sizes_of (geometry_of layout.now)) image.now))) }
+    ensures generation { OnOk result (IfSome (F.state flash.new).bytes (IsOfFirstGeneration (progress_of layout.now))) }
 {
+    bank_says_what_stands();
     banks_fit();
     slots_fit();
     images_end();
@@ -113,7 +115,9 @@ fn write_settings<F: Flash>(layout: &Layout, flash: &mut F) -> Result<(), Format
     ensures calls { Calls (bank_spots (settings_of layout.now)) (format_end result) (F.state flash.old) (F.state flash.new) }
     ensures flash { IfErr result IsOfFlash }
     ensures stands { OnOk result (IfSome (F.state flash.new).bytes (SavedStand layout.now [])) }
+    ensures generation { OnOk result (IfSome (F.state flash.new).bytes (IsOfFirstGeneration (settings_of layout.now))) }
 {
+    bank_says_what_stands();
     banks_fit();
     match Settings::make(flash, layout) {
         Ok(_) => Ok(()),
@@ -131,6 +135,7 @@ fn write_one<F: Flash>(layout: &Layout, flash: &mut F, image: &[u8]) -> Result<(
     ensures calls { Calls (format_spots (geometry_of layout.now) None) (format_end result) (F.state flash.old) (F.state flash.new) }
     ensures flash { IfErr result IsOfFlash }
     ensures stands { OnOk result (IfSome (F.state flash.new).bytes (StandsFormatted (geometry_of layout.now) image.now None)) }
+    ensures generations { OnOk result (IfSome (F.state flash.new).bytes (BanksFormatted (geometry_of layout.now))) }
 {
     device_laws();
     write_image(layout, flash, image)?;
@@ -155,6 +160,7 @@ fn write_two<F: Flash>(
     ensures calls { Calls (format_spots (geometry_of first.now) (Some one.now)) (format_end result) (F.state flash.old) (F.state flash.new) }
     ensures flash { IfErr result IsOfFlash }
     ensures stands { OnOk result (IfSome (F.state flash.new).bytes (StandsFormatted (geometry_of first.now) zero.now (Some one.now))) }
+    ensures generations { OnOk result (IfSome (F.state flash.new).bytes (BanksFormatted (geometry_of first.now))) }
 {
     device_laws();
     write_image(first, flash, zero)?;

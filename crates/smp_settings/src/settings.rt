@@ -61,6 +61,7 @@ impl Settings {
         ensures changes { ChangesAtMost 2 0 (F.state flash.old).changes (F.state flash.new).changes }
         ensures ages { Told (AgesAtMost 1 (settings_of layout.now)) (F.state flash.old).bytes (F.state flash.new).bytes }
         ensures settings { IfOk result (λ s. (s.layout ≡ layout.now) × (s.bank.sure ≡ true) × (s.running ≡ []) × (s.saved ≡ [])) }
+        ensures generation { IfOk result (λ s. s.bank.generation ≡ 1) }
         ensures says { IfOk result (λ s. IfSome (F.state flash.new).bytes (SettingsSay s)) }
         ensures side { OnOk result (IfSome (F.state flash.new).bytes (λ held. area (settings_of layout.now).first.at 4096 held ≡ whole_side 1 (1 ∷ 0 ∷ []))) }
         ensures formatted { IsErrOf result BankFault.Unformatted → ⊥ }

@@ -1,5 +1,6 @@
 use Rattle.std.proofs.Common.{arith, refl, ap}
 use Rattle.smp_device.proofs.FormattedSide.{put_calls, made_calls, told_fresh, told_side}
+use Rattle.smp_device.proofs.FormattedBanks.{record_first}
 use Rattle.smp_device.proofs.formatting.write_image.Goals as goal
 
 pub returns-in-Err-clause-calls : goal.returns-in-Err-clause-calls
@@ -22,3 +23,6 @@ returns-in-Ok-make-clause-stands g c =
 pub returns-in-Err-make-clause-calls : goal.returns-in-Err-make-clause-calls
 returns-in-Err-make-clause-calls g c =
     made_calls c.args.layout.now _ c.slot.result.at _ _ _ _ _ _ (ap (λ k. k.page) c.requires.sizes) (ap (λ s. s.at) c.slot.ensures) c.requires.fits.short c.of_making.ensures.ends c.in-Ok.ensures.calls c.in-Err-make.ensures.calls
+
+pub returns-in-Ok-make-clause-generation : goal.returns-in-Ok-make-clause-generation
+returns-in-Ok-make-clause-generation g c = record_first c.bank_says_what_stands.ensures.generation c.args.layout.now c.in-Ok-make.field-0 _ c.in-Ok-make.ensures.made c.in-Ok-make.ensures.says

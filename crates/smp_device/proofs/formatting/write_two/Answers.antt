@@ -1,6 +1,7 @@
 use Rattle.std.proofs.lemmas.Result.{err_from_is_err_and}
 use Rattle.std.proofs.lemmas.Result.{on_ok_weaker}
 use Rattle.smp_device.proofs.FormattedDevice.{all_calls, all_erased, both_fresh, first_fresh, second_erased, two_calls, two_stand}
+use Rattle.smp_device.proofs.FormattedBanks.{two_first}
 use Rattle.smp_device.proofs.formatting.write_two.Goals as goal
 
 pub write_image-requires-clause-erased : goal.write_image-requires-clause-erased
@@ -27,3 +28,9 @@ returns-clause-stands g c =
     on_ok_weaker c.write_settings.result
     (λ saved. two_stand c.device_laws.ensures c.args.first.now c.args.second.now c.requires.same c.requires.zero c.requires.one c.args.zero.now c.args.one.now _ _ _ c.in_ok-write_image.ensures.stands c.in_ok-write_image-2.ensures.calls.keeps c.in_ok-write_image-2.ensures.stands c.write_settings.ensures.calls.keeps saved)
     c.write_settings.ensures.stands
+
+pub returns-clause-generations : goal.returns-clause-generations
+returns-clause-generations g c =
+    on_ok_weaker c.write_settings.result
+    (λ made. two_first c.device_laws.ensures c.args.first.now c.args.second.now c.requires.same c.requires.zero c.requires.one _ _ _ c.in_ok-write_image.ensures.generation c.in_ok-write_image-2.ensures.calls.keeps c.in_ok-write_image-2.ensures.generation c.write_settings.ensures.calls.keeps made)
+    c.write_settings.ensures.generation
