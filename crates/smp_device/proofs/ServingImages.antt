@@ -27,7 +27,7 @@ use Rattle.smp_side.specs.Held.{result_end}
 use Rattle.smp_device.specs.Answers.{ImagesAnswer, IsImageReply, ImagesMove, ImagesDo, ImagesTell, ImagesCaused, ResultCausedIn}
 use Rattle.smp_device.specs.DeviceLaws.{DeviceLaws}
 use Rattle.smp_device.specs.Places.{Places, ArePlaces, ImagesSay, ImagesStand, places_of, spots_of}
-use Rattle.smp_device.specs.Serving.{CausedBy, ErasesBy, Idles, MountsBy, ReachedFrom, ResultCausedBy, Serves, spots_by}
+use Rattle.smp_device.specs.Serving.{CausedBy, ErasesBy, Idles, MountsBy, ReachedFrom, ResultCausedBy, SavesUnworn, Serves, spots_by}
 use Rattle.smp_device.specs.Telling.{Fitting}
 use Rattle.smp_device.specs.Up.{Up, Stands, UpSays, IsFor, Carries}
 use Rattle.smp_device.specs.Uploads.{sizes_of}
@@ -149,6 +149,14 @@ pub both_say : (images : Images) (settings : SettingsState) (x : Option (List �
 both_say images settings None i s = tt
 both_say images settings (Some u) i s = record { images_say = i; settings_say = s }
 
+images_unworn : (p : Places) (m : Meant) → IsAboutImages m → (r : Result Reply UploadFault) (x : Option (List ℕ)) → OnOk r (SavesUnworn p (Ok m) x)
+images_unworn p m is (Err fault) x = tt
+images_unworn p meant.image_list is (Ok reply) x = tt
+images_unworn p (meant.image_set hash confirm) is (Ok reply) x = tt
+images_unworn p (meant.upload image len off sha part) is (Ok reply) x = tt
+images_unworn p (meant.erase slot) is (Ok reply) x = tt
+images_unworn p m is (Ok reply) x = absurd is
+
 pub images_served : DeviceLaws → (g : Geometry) (m : Meant) → IsAboutImages m → (up : Up) (images : Images) (r : Result Reply UploadFault) (a b : FlashState) → IsFor g up.images up.settings → IfSome a.bytes (UpSays up.images up.settings)
     → ImagesAnswer (places_of up.images) 5 up.images.target (λ d. does (sizes_of g) d m) images r a b
     → Idles (sizes_of g) (Ok m) up (with_images up images) r a b → MountsBy (sizes_of g) (Ok m) up.images (record { images = images; result = r }) a b → ErasesBy (Ok m) up.images r b.bytes
@@ -164,6 +172,7 @@ images_served laws g m is up images r a b for says f idle mounts erased =
       settings_kept = refl;
       counters_kept = refl;
       caused = result_caused p m is r a.bytes f.caused;
+      unworn = images_unworn p m is r a.bytes;
       progress_ages = f.ages;
       settings_ages = Told-map (Keeps (spots_of p)) (AgesAtMost 1 (settings_of p.first)) a.bytes b.bytes (λ u v. settings_age laws g p for.places 1 u v) f.calls.keeps;
       pending = f.pending;

@@ -24,7 +24,7 @@ use Rattle.smp_settings.specs.Saved.{SavedStand}
 use Rattle.smp_upload.specs.Moves.{KeepsPending}
 use Rattle.smp_upload.specs.declared.states.UploadFault.{UploadFault}
 use Rattle.smp_device.specs.Places.{Places, StandsAt, places_of, place_at}
-use Rattle.smp_device.specs.Serving.{ErasesBy, Idles, IfOfFlash, MountsBy, ReachedFrom, Serves, ServicePays, spots_for}
+use Rattle.smp_device.specs.Serving.{ErasesBy, Idles, IfOfFlash, MountsBy, ReachedFrom, SavesUnworn, Serves, ServicePays, spots_for}
 use Rattle.smp_device.specs.Up.{Up, Stands, UpSays, Carries}
 use Rattle.smp_device.specs.Uploads.{sizes_of}
 use Rattle.smp_device.specs.declared.images.Images.{Images}
@@ -97,6 +97,10 @@ quiet_erases : (p : Places) (m : Result Meant ℕ) (before : Images) (r : Result
 quiet_erases p (Ok (meant.erase slot)) before r x none = absurd (cc none)
 quiet_erases p m before r x none = tt
 
+quiet_unworn : (p : Places) (m : Result Meant ℕ) (x : Option (List ℕ)) → spots_for p m ≡ [] → SavesUnworn p m x
+quiet_unworn p (Ok meant.save) x none = absurd (cc none)
+quiet_unworn p m x none = tt
+
 quiet_pays : (p : Places) (m : Result Meant ℕ) (P : Type 0) → spots_for p m ≡ [] → IfOfFlash m P
 quiet_pays p (Ok meant.image_list) P none = absurd (cc none)
 quiet_pays p (Ok (meant.image_set hash confirm)) P none = absurd (cc none)
@@ -119,6 +123,7 @@ quiet g m up after reply a spots images layout counters says f =
       settings_kept = layout;
       counters_kept = counters;
       caused = tt;
+      unworn = quiet_unworn p m a.bytes spots;
       progress_ages = λ i l at. Told-same (AgesAtMost 5 (progress_of l)) a.bytes a.bytes (no_age_of l 5) refl;
       settings_ages = Told-same (AgesAtMost 1 (settings_of p.first)) a.bytes a.bytes (no_age p.first 1) refl;
       pending = λ i l at. Told-same (KeepsPending l) a.bytes a.bytes (λ u. record { kept = λ is. refl; still = λ is. refl }) refl;

@@ -36,7 +36,7 @@ use Rattle.smp_side.specs.declared.held.Held.TheVariants as helds
 use Rattle.smp_device.specs.DeviceLaws.{DeviceLaws}
 use Rattle.smp_device.specs.Goings.{IsCounted}
 use Rattle.smp_device.specs.Places.{Places, ArePlaces, ImagesSay, ImagesStand, StandsAt, place_at, places_of}
-use Rattle.smp_device.specs.Serving.{ErasesBy, Idles, IfOfFlash, MountsBy, ReachedFrom, ResultCausedBy, Serves, ServicePays, spots_for, bank_reply, of_bank}
+use Rattle.smp_device.specs.Serving.{ErasesBy, Idles, IfOfFlash, MountsBy, ReachedFrom, ResultCausedBy, SavesUnworn, Serves, ServicePays, spots_for, bank_reply, of_bank}
 use Rattle.smp_device.specs.Up.{Up, Stands, UpSays, IsFor, Carries}
 use Rattle.smp_device.specs.Uploads.{sizes_of}
 use Rattle.smp_device.specs.declared.images.Images.{Images}
@@ -87,6 +87,7 @@ pub record Framed (g : Geometry) (m : Meant) (up : Up) (settings : SettingsState
   pub say : IfSome b.bytes (SettingsSay settings)
   pub ages : Told (AgesAtMost 1 (settings_of (places_of up.images).first)) a.bytes b.bytes
   pub caused : ResultCausedBy (places_of up.images) (Ok m) r a.bytes
+  pub unworn : OnOk r (SavesUnworn (places_of up.images) (Ok m) a.bytes)
 
 abbrev pub with_settings : Up → SettingsState → Up
 with_settings up settings = record { images = up.images; settings = settings; files = up.files; counters = up.counters }
@@ -126,6 +127,7 @@ framed_served laws g m up settings r a b for says f reached pays =
       settings_kept = f.layout;
       counters_kept = refl;
       caused = f.caused;
+      unworn = f.unworn;
       progress_ages = progress_age g p for.places 5 a.bytes b.bytes k;
       settings_ages = f.ages;
       pending = pending_kept g p for.places a.bytes b.bytes k;
@@ -225,6 +227,10 @@ load_pays : (g : Geometry) (up : Up) (r : Result (Unit {0}) BankFault) (a b : Fl
 load_pays g up (Ok u) a b = λ region d aim stands carries c. elim c [ inl one ↦ absurd (run_uncounted region d load_settings one) | inr more ↦ absurd more ]
 load_pays g up (Err fault) a b = tt
 
+load_unworn : (p : Places) (r : Result (Unit {0}) BankFault) (x : Option (List ℕ)) → OnOk (bank_reply r) (SavesUnworn p (Ok meant.load) x)
+load_unworn p (Ok u) x = tt
+load_unworn p (Err fault) x = tt
+
 pub load_served : DeviceLaws → (g : Geometry) (up : Up) (settings : SettingsState) (r : Result (Unit {0}) BankFault) (a b : FlashState) → IsFor g up.images up.settings → IfSome a.bytes (UpSays up.images up.settings)
     → Calls (bank_spots (settings_of up.settings.layout)) (bank_end r) a b → b.bytes ≡ a.bytes → IfSome b.bytes (SettingsSay settings) → settings.layout ≡ up.settings.layout
     → OnOk r ((settings.running ≡ settings.saved) × (settings.bank.sure ≡ true)) → OnErr r (settings ≡ up.settings)
@@ -241,6 +247,7 @@ load_served laws g up settings r a b for says calls kept say layout ok err un fu
       say = say;
       ages = Told-same (AgesAtMost 1 (settings_of p.first)) a.bytes b.bytes (λ u. record { kept = omega arith; most = omega arith }) kept;
       caused = load_caused p r a.bytes un fu wo;
+      unworn = load_unworn p r a.bytes;
     })
     (load_reached laws g up settings r a.bytes b.bytes kept (layout ∙ for.layout) ok err say)
     (load_pays g up r a b)
@@ -360,12 +367,16 @@ save_pays laws g up (Ok u) a b f = λ region d aim stands carries c. elim c [
 ]
 save_pays laws g up (Err fault) a b f = tt
 
+save_unworn : (p : Places) (layout : Layout) (r : Result (Unit {0}) BankFault) (x : Option (List ℕ)) → layout ≡ p.first → OnOk r (IfSome x (λ held. IsWorn layout held → ⊥)) → OnOk (bank_reply r) (SavesUnworn p (Ok meant.save) x)
+save_unworn p layout (Ok u) x same f = subst (λ (l : Layout). IfSome x (λ held. IsWorn l held → ⊥)) same f
+save_unworn p layout (Err fault) x same f = tt
+
 pub save_served : DeviceLaws → (g : Geometry) (up : Up) (settings : SettingsState) (r : Result (Unit {0}) BankFault) (a b : FlashState) → IsFor g up.images up.settings → IfSome a.bytes (UpSays up.images up.settings)
     → Calls (bank_spots (settings_of up.settings.layout)) (bank_end r) a b → Told (SavedOrThis up.settings.layout up.settings.running) a.bytes b.bytes → OnOk r (IfSome b.bytes (SavedStand up.settings.layout up.settings.running))
     → Told (AgesAtMost 1 (settings_of up.settings.layout)) a.bytes b.bytes → IfSome b.bytes (SettingsSay settings) → settings.layout ≡ up.settings.layout → settings.running ≡ up.settings.running
-    → (IsErrOf r banks.Worn → IfSome a.bytes (IsWorn up.settings.layout)) → (IsErrOf r banks.Unformatted → a.bytes ≡ None) → (IsErrOf r banks.Full → ⊥) → OnOk r (SavePays up.settings.layout up.settings.running a b a.bytes)
+    → (IsErrOf r banks.Worn → IfSome a.bytes (IsWorn up.settings.layout)) → (IsErrOf r banks.Unformatted → a.bytes ≡ None) → (IsErrOf r banks.Full → ⊥) → OnOk r (IfSome a.bytes (λ held. IsWorn up.settings.layout held → ⊥)) → OnOk r (SavePays up.settings.layout up.settings.running a b a.bytes)
     → Serves g (Ok meant.save) up (with_settings up settings) (bank_reply r) a b
-save_served laws g up settings r a b for says calls either all ages say layout run wo un fu pays =
+save_served laws g up settings r a b for says calls either all ages say layout run wo un fu fresh pays =
     let p = places_of up.images in
     let at = calls_as up.settings.layout p.first r a b for.layout calls in
     framed_served laws g meant.save up settings (bank_reply r) a b for says
@@ -377,6 +388,7 @@ save_served laws g up settings r a b for says calls either all ages say layout r
       say = say;
       ages = subst (λ (l : Layout). Told (AgesAtMost 1 (settings_of l)) a.bytes b.bytes) for.layout ages;
       caused = save_caused p r a.bytes un fu (λ is. worn_at up.settings.layout p.first a.bytes for.layout (wo is));
+      unworn = save_unworn p up.settings.layout r a.bytes for.layout fresh;
     })
     (save_reached laws g up settings r a.bytes b.bytes for.places at.keeps run
     (subst (λ (l : Layout). OnOk r (IfSome b.bytes (SavedStand l up.settings.running))) for.layout all)

@@ -80,6 +80,11 @@ abbrev pub ResultCausedBy : Places → Result Meant ℕ → Result Reply UploadF
 ResultCausedBy p m (Ok reply) x = Unit {0}
 ResultCausedBy p m (Err fault) x = CausedBy p m fault x
 
+-- A save that was answered as done found a settings bank that is not at its last generation, also where nothing was to be saved.
+abbrev pub SavesUnworn : Places → Result Meant ℕ → Option (List ℕ) → Type 0
+SavesUnworn p (Ok meant.save) x = IfSome x (λ held. newest_generation (settings_of p.first) held ≡ 2 ^ 32 - 1 → ⊥)
+SavesUnworn p m x = Unit {0}
+
 -- a request was answered, and flash and images are as they were
 pub record Idle (up after : Up) (result : Result Reply UploadFault) (a b : FlashState) : Type 0 where
   pub answered : is_ok result ≡ true
@@ -131,6 +136,7 @@ pub record Serves (g : Geometry) (m : Result Meant ℕ) (up after : Up) (result 
   pub settings_kept : after.settings.layout ≡ up.settings.layout
   pub counters_kept : after.counters ≡ up.counters
   pub caused : ResultCausedBy (places_of up.images) m result a.bytes
+  pub unworn : OnOk result (SavesUnworn (places_of up.images) m a.bytes)
   pub progress_ages : AtEach (λ l. Told (AgesAtMost 5 (progress_of l)) a.bytes b.bytes) (places_of up.images)
   pub settings_ages : Told (AgesAtMost 1 (settings_of (places_of up.images).first)) a.bytes b.bytes
   pub pending : AtEach (λ l. Told (KeepsPending l) a.bytes b.bytes) (places_of up.images)
