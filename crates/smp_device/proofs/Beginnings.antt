@@ -43,7 +43,7 @@ use Rattle.smp_device.specs.Places.{Places, ArePlaces, AtEach, ImagesSay, Images
 use Rattle.smp_device.specs.Serving.{of_bank}
 use Rattle.smp_device.specs.Settling.{Settle}
 use Rattle.smp_device.specs.Showing.{shown_at, shown_held, shown_if, shown_known, shown_side, shown_upload}
-use Rattle.smp_device.specs.Starting.{AreConfirmed, AreMounted, IsMounted, OpenFails, SettleTo, StartCaused, Starts, StartsImages, StartsOn, Unstarted, WornAt, start_spots}
+use Rattle.smp_device.specs.Starting.{AreConfirmed, AreMounted, IsMounted, OpenFails, SettleTo, StartCaused, Starts, StartsImages, SettingsFirst, StartsOn, Unstarted, WornAt, start_spots}
 use Rattle.smp_device.specs.Up.{AllPlaces, Readable, ShowsAt, Stands, UpSays}
 use Rattle.smp_device.specs.declared.images.Images.{Images}
 use Rattle.smp_device.specs.declared.showing.Confirmed.{Confirmed}
@@ -90,12 +90,25 @@ no_pending p x y e = λ i l at. Told-same (KeepsPending l) x y (λ u. record { k
 no_settings_age : (p : Places) (n : ℕ) (x y : Option (List ℕ)) → y ≡ x → Told (AgesAtMost n (settings_of p.first)) x y
 no_settings_age p n x y e = Told-same (AgesAtMost n (settings_of p.first)) x y (λ u. record { kept = omega arith; most = omega arith }) e
 
+kept_first : (p : Places) (x y : Option (List ℕ)) → y ≡ x → SettingsFirst p x y
+kept_first p None y e = tt
+kept_first p (Some u) y e = λ unread. e
+
+read_at : (p : Places) (settings : SettingsState) (x y : Option (List ℕ)) → settings.layout ≡ p.first → IfSome x (SettingsSay settings) → SettingsFirst p x y
+read_at p settings None y l say = tt
+read_at p settings (Some u) y l say = λ unread. absurd (unread (subst (λ (k : Layout). SavedReadable k u) l say.readable))
+
+-- they were read
+read_first : (p : Places) (settings : SettingsState) (a b c : Option (List ℕ)) → settings.layout ≡ p.first → b ≡ a → IfSome b (SettingsSay settings) → SettingsFirst p a c
+read_first p settings a b c l kept say = read_at p settings a c l (IfSome-same (SettingsSay settings) b a (sym kept) say)
+
 pub start_unread : (p : Places) (fault : BankFault) (passed : UploadFault) (a b : FlashState) → passed ≡ of_bank fault → Calls (bank_spots (settings_of p.first)) (bank_fault_end fault) a b → b.bytes ≡ a.bytes
     → (IsErrOf {T = SettingsState} (Err fault) banks.Unformatted → IfSome b.bytes (λ held. SavedReadable p.first held → ⊥)) → (IsErrOf {T = SettingsState} (Err fault) banks.Full → ⊥) → (IsErrOf {T = SettingsState} (Err fault) banks.Worn → ⊥)
     → Starts p (Err passed) a b
 start_unread p fault passed a b e calls kept un fu wo = subst (λ (f : UploadFault). Starts p (Err f) a b) (sym e) (record {
   calls = Calls-wider (start_spots p) (bank_spots (settings_of p.first)) (upload_fault_end (of_bank fault)) a b (bank_covered p) (subst (λ (x : End). Calls (bank_spots (settings_of p.first)) x a b) (end_of_fault fault) calls);
   started = still_told p (of_bank fault) a.bytes b.bytes kept;
+  settings_first = kept_first p a.bytes b.bytes kept;
   caused = unread_caused p fault a.bytes (λ is. IfSome-same (λ held. SavedReadable p.first held → ⊥) b.bytes a.bytes (sym kept) (un is)) fu wo;
   progress_ages = no_age p 2 a.bytes b.bytes kept;
   settings_ages = no_settings_age p 0 a.bytes b.bytes kept;
@@ -139,14 +152,15 @@ unmounted_caused p (faults.Fault operation) x un wo = tt
 unmounted_caused p faults.Off x un wo = tt
 unmounted_caused p faults.Worn x un wo = wo refl
 
-pub start_unmounted : DeviceLaws → SavedLaw → (g : Geometry) (p : Places) → ArePlaces g p → (fault : UploadFault) (a b c : FlashState) → Calls (bank_spots (settings_of p.first)) Went a b → b.bytes ≡ a.bytes → StartsImages p (Err fault) b c
+pub start_unmounted : DeviceLaws → SavedLaw → (g : Geometry) (p : Places) → ArePlaces g p → (settings : SettingsState) → settings.layout ≡ p.first → (fault : UploadFault) (a b c : FlashState) → Calls (bank_spots (settings_of p.first)) Went a b → b.bytes ≡ a.bytes → IfSome b.bytes (SettingsSay settings) → StartsImages p (Err fault) b c
     → Starts p (Err fault) a c
-start_unmounted laws law g p are fault a b c calls kept m =
+start_unmounted laws law g p are settings layout fault a b c calls kept say m =
     let k = m.calls.keeps in
     record {
       calls = Calls-after (start_spots p) (upload_fault_end fault) a b c (Calls-wider (start_spots p) (bank_spots (settings_of p.first)) Went a b (bank_covered p) calls) (Calls-wider (start_spots p) (spots_of p) (upload_fault_end fault) b c (images_covered p) m.calls);
       started = Told-from (StartsOn p (Err fault)) a.bytes b.bytes c.bytes kept (unstarted_told laws law g p are fault b.bytes c.bytes k m.reaches);
       caused = subst (λ (x : Option (List ℕ)). StartCaused p (Err fault) x) kept (unmounted_caused p fault b.bytes m.unformatted m.worn);
+      settings_first = read_first p settings a.bytes b.bytes c.bytes layout kept say;
       progress_ages = λ i l at. Told-from (AgesAtMost 2 (progress_of l)) a.bytes b.bytes c.bytes kept (m.ages i l at);
       settings_ages = Told-from (AgesAtMost 0 (settings_of p.first)) a.bytes b.bytes c.bytes kept (Told-map (Keeps (spots_of p)) (AgesAtMost 0 (settings_of p.first)) b.bytes c.bytes (λ u v. settings_age laws g p are 0 u v) k);
       pending = λ i l at. Told-from (KeepsPending l) a.bytes b.bytes c.bytes kept (m.pending i l at);
@@ -155,13 +169,14 @@ start_unmounted laws law g p are fault a b c calls kept m =
 
 -- It is not known which images are confirmed.
 
-pub start_unconfirmed : DeviceLaws → SavedLaw → (g : Geometry) (p : Places) → ArePlaces g p → (images : Images) (fault : CallFault) (passed : UploadFault) (a b c d : FlashState) → passed ≡ of_call fault → Calls (bank_spots (settings_of p.first)) Went a b → b.bytes ≡ a.bytes
+pub start_unconfirmed : DeviceLaws → SavedLaw → (g : Geometry) (p : Places) → ArePlaces g p → (settings : SettingsState) → settings.layout ≡ p.first → (images : Images) (fault : CallFault) (passed : UploadFault) (a b c d : FlashState) → passed ≡ of_call fault → Calls (bank_spots (settings_of p.first)) Went a b → b.bytes ≡ a.bytes → IfSome b.bytes (SettingsSay settings)
     → StartsImages p (Ok images) b c → Calls (spots_of p) (fault_end fault) c d → d.bytes ≡ c.bytes → Starts p (Err passed) a d
-start_unconfirmed laws law g p are images fault passed a b c d e calls kept m read same = subst (λ (f : UploadFault). Starts p (Err f) a d) (sym e) (record {
+start_unconfirmed laws law g p are settings layout images fault passed a b c d e calls kept say m read same = subst (λ (f : UploadFault). Starts p (Err f) a d) (sym e) (record {
   calls = Calls-after (start_spots p) (upload_fault_end (of_call fault)) a b d (Calls-wider (start_spots p) (bank_spots (settings_of p.first)) Went a b (bank_covered p) calls)
       (Calls-wider (start_spots p) (spots_of p) (upload_fault_end (of_call fault)) b d (images_covered p) (Calls-after (spots_of p) (upload_fault_end (of_call fault)) b c d m.calls (end_as fault read)));
   started = Told-from (StartsOn p (Err (of_call fault))) a.bytes b.bytes d.bytes kept (subst (λ (x : Option (List ℕ)). Told (StartsOn p (Err (of_call fault))) b.bytes x) (sym same) (unstarted_told laws law g p are (of_call fault) b.bytes c.bytes m.calls.keeps m.reaches));
   caused = no_cause fault;
+  settings_first = read_first p settings a.bytes b.bytes d.bytes layout kept say;
   progress_ages = λ i l at. Told-from (AgesAtMost 2 (progress_of l)) a.bytes b.bytes d.bytes kept (subst (λ (x : Option (List ℕ)). Told (AgesAtMost 2 (progress_of l)) b.bytes x) (sym same) (m.ages i l at));
   settings_ages = Told-from (AgesAtMost 0 (settings_of p.first)) a.bytes b.bytes d.bytes kept
       (subst (λ (x : Option (List ℕ)). Told (AgesAtMost 0 (settings_of p.first)) b.bytes x) (sym same) (Told-map (Keeps (spots_of p)) (AgesAtMost 0 (settings_of p.first)) b.bytes c.bytes (λ u v. settings_age laws g p are 0 u v) m.calls.keeps));
@@ -285,6 +300,7 @@ start_done_at laws law g images settings confirmed are target layout running sur
       calls = through;
       started = started;
       caused = subst (λ (x : Option (List ℕ)). IfSome x (Readable p)) kept (readable_both p settings b.bytes layout m.readable say);
+      settings_first = read_first p settings a.bytes b.bytes d.bytes layout kept say;
       progress_ages = λ i l at. Told-from (AgesAtMost 2 (progress_of l)) a.bytes b.bytes d.bytes kept (subst (λ (x : Option (List ℕ)). Told (AgesAtMost 2 (progress_of l)) b.bytes x) (sym same) (m.ages i l at));
       settings_ages = Told-from (AgesAtMost 0 (settings_of p.first)) a.bytes b.bytes d.bytes kept
           (subst (λ (x : Option (List ℕ)). Told (AgesAtMost 0 (settings_of p.first)) b.bytes x) (sym same) (Told-map (Keeps (spots_of p)) (AgesAtMost 0 (settings_of p.first)) b.bytes c.bytes (λ u v. settings_age laws g p are 0 u v) k));

@@ -11,6 +11,7 @@ use Rattle.smp_model.specs.declared.device.AbstractDevice.{AbstractDevice}
 use Rattle.smp_model.specs.Counters.{no_counters}
 use Rattle.smp_model.specs.Settings.{stored_form}
 use Rattle.smp_model.specs.Steps.{Step, applied, settle_steps, side_at, start}
+use Rattle.smp_settings.specs.Saved.{SavedReadable}
 use Rattle.smp_upload.specs.Mounting.{IsWorn, Mounts}
 use Rattle.smp_upload.specs.Moves.{KeepsPending, mount_spots}
 use Rattle.smp_upload.specs.declared.states.UploadFault.{UploadFault}
@@ -119,6 +120,10 @@ StartCaused p (Err faults.Worn) x = IfSome x (λ held. WornAt p 0 held ⊎ WornA
 StartCaused p (Err (faults.Fault operation)) x = Unit {0}
 StartCaused p (Err faults.Off) x = Unit {0}
 
+-- The settings are read first: where the bytes give none, a start changes no byte.
+abbrev pub SettingsFirst : Places → Option (List ℕ) → Option (List ℕ) → Type 0
+SettingsFirst p x y = IfSome x (λ held. (SavedReadable p.first held → ⊥) → y ≡ x)
+
 -- Where settling the device that the bytes stand for brings what is armed nearer, patience was taken of it.
 abbrev pub StartPays : Places → FlashState → FlashState → Type 0
 StartPays p a b =
@@ -129,6 +134,7 @@ pub record Starts (p : Places) (result : Result Begun UploadFault) (a b : FlashS
   pub calls : Calls (start_spots p) (result_end result) a b
   pub started : Told (StartsOn p result) a.bytes b.bytes
   pub caused : StartCaused p result a.bytes
+  pub settings_first : SettingsFirst p a.bytes b.bytes
   pub progress_ages : AtEach (λ l. Told (AgesAtMost 2 (progress_of l)) a.bytes b.bytes) p
   pub settings_ages : Told (AgesAtMost 0 (settings_of p.first)) a.bytes b.bytes
   pub pending : AtEach (λ l. Told (KeepsPending l) a.bytes b.bytes) p
