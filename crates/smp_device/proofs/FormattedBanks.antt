@@ -1,7 +1,7 @@
 -- The banks of a flash that is formatted are of generation 1.
-use Rattle.std.proofs.Common.{◌≡◌, ℕ, zero, suc, ◌<◌, Bool, true, Option, Some, None, List, refl, sym, ◌∙◌, ap, subst, arith}
+use Rattle.std.proofs.Common.{◌≡◌, ℕ, zero, suc, ◌<◌, true, Option, Some, List, sym, ◌∙◌, ap, subst, arith}
 use Rattle.std.specs.Prelude.{IfSome}
-use Rattle.smp_flash.specs.Area.{Clear, Keeps, Told}
+use Rattle.smp_flash.specs.Area.{Keeps, Told}
 use Rattle.smp_flash.specs.Layout.{geometry_of, image_of, progress_of, settings_of, bank_spots, bank_at}
 use Rattle.smp_flash.specs.Region.{progress_at, settings_at}
 use Rattle.smp_flash.specs.declared.geometry.Geometry.{Geometry}
