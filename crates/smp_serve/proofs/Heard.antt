@@ -64,9 +64,13 @@ quiet_item : (item : Scripted) (into : List ℕ) → Hears item into heards.Quie
 quiet_item items.Quiet into h = refl
 quiet_item (items.Packet peer held) into h = absurd h
 
-pub hears_quiet : (a b : Option (List Scripted)) (into : List ℕ) → IfSome a (λ items. Hears (next_item items) into heards.Quiet) → b ≡ without_next a → HearsOne a b items.Quiet
-hears_quiet None b into h left = record { told = tt; left = left }
-hears_quiet (Some script) b into h left = record { told = quiet_item (next_item script) into h; left = left }
+quiet_told : (a b : Option (List Scripted)) (into : List ℕ) → IfSome a (λ items. Hears (next_item items) into heards.Quiet) → b ≡ without_next a → HearsOne a b items.Quiet
+quiet_told None b into h left = record { told = tt; left = left }
+quiet_told (Some script) b into h left = record { told = quiet_item (next_item script) into h; left = left }
+
+pub hears_quiet : (a b : Option (List Scripted)) (into : List ℕ) (heard : Heard) → heard ≡ heards.Quiet
+    → IfSome a (λ items. Hears (next_item items) into heard) → b ≡ without_next a → HearsOne a b items.Quiet
+hears_quiet a b into heard e h left = quiet_told a b into (subst (λ (x : Heard). IfSome a (λ items. Hears (next_item items) into x)) e h) left
 
 -- One item behind others.
 

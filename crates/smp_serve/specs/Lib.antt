@@ -1,2 +1,4 @@
 pub mod Hearing
 pub mod Driving
+pub mod Sessions
+pub mod Links

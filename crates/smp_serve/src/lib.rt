@@ -2,5 +2,9 @@
 #![tactic(auto)]
 
 mod driving;
+mod fault;
+mod link_serving;
 
 pub use driving::{ClientFault, drive_client};
+pub use fault::ServeFault;
+pub use link_serving::{Served, serve_link};
