@@ -4,3 +4,4 @@ pub mod ClientDrives
 pub mod Handlings
 pub mod Packets
 pub mod LinkTurns
+pub mod ConsoleTurns

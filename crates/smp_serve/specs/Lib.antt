@@ -2,3 +2,4 @@ pub mod Hearing
 pub mod Driving
 pub mod Sessions
 pub mod Links
+pub mod Consoles

@@ -6,11 +6,11 @@ ghost use Rattle.smp_device.specs.Handling.{DeviceSays};
 ghost use Rattle.smp_device.specs.Up.{IsWhole};
 ghost use Rattle.smp_serve.specs.Hearing.{link_state};
 ghost use Rattle.smp_serve.specs.Links.{AnswersTo, LinkCaused, LinkEnds, TurnEnds};
-ghost use Rattle.smp_serve.specs.Sessions.{down_fault, point, start_fault};
+ghost use Rattle.smp_serve.specs.Sessions.{point};
 
-use crate::fault::ServeFault;
+use crate::fault::{ServeFault, down_fault, start_fault};
 use arrayvec::ArrayVec;
-use smp_device::{Device, Down, Handled, StartFault};
+use smp_device::{Device, Handled};
 use smp_edge::{Failed, Heard, Link, Peer};
 use smp_flash::Flash;
 use smp_header::PacketBuffer;
@@ -23,28 +23,6 @@ pub struct Served {
 
     /// Datagrams that were dropped.
     pub dropped: u32,
-}
-
-/// The fault of a device that went down.
-fn down_fault(down: Down) -> ServeFault
-    ensures { result ≡ down_fault down }
-{
-    match down {
-        Down::Off => ServeFault::FlashOff,
-        Down::Unformatted => ServeFault::Unformatted,
-    }
-}
-
-/// The fault of a start that did not go through.
-fn start_fault(fault: StartFault) -> ServeFault
-    ensures { result ≡ start_fault fault }
-{
-    match fault {
-        StartFault::Unformatted => ServeFault::Unformatted,
-        StartFault::Fault(_) => ServeFault::FlashFault,
-        StartFault::Off => ServeFault::FlashOff,
-        StartFault::Worn => ServeFault::Worn,
-    }
 }
 
 /// Gives a datagram to the device, and sends the reply to the peer that asked: whether there was one. After the reply to a reset
