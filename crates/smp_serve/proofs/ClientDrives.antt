@@ -1,7 +1,7 @@
 -- A client that is driven, turn by turn.
-use Rattle.std.proofs.Common.{◌≡◌, ◌⊎◌, ℕ, Bool, true, false, inl, inr, List, [], ◌∷◌, ◌++◌, map, Option, Some, None, Result, Ok, Err, refl, ap, sym, ◌∙◌, subst}
-use Rattle.std.proofs.lemmas.List.{map-append, append-nil}
-use Rattle.smp_edge.specs.Link.{with_sent, without_next}
+use Rattle.std.proofs.Common.{◌≡◌, ◌⊎◌, ℕ, Bool, true, false, inl, inr, List, [], ◌∷◌, ◌++◌, Option, Some, None, Ok, Err, refl, ap, sym, ◌∙◌, subst}
+use Rattle.std.proofs.lemmas.List.{map-append}
+use Rattle.smp_edge.specs.Link.{with_sent}
 use Rattle.smp_edge.specs.declared.link.Peer.{Peer}
 use Rattle.smp_edge.specs.declared.scripts.Scripted.{Scripted}
 use Rattle.smp_edge.specs.declared.scripts.Sent.{Sent}
@@ -14,8 +14,8 @@ use Rattle.smp_jobs.specs.declared.moves.JobEnd.{JobEnd}
 use Rattle.smp_jobs.specs.declared.moves.JobEnd.TheVariants as job_ends
 use Rattle.smp_jobs.specs.declared.moves.JobMove.{JobMove}
 use Rattle.smp_jobs.specs.declared.moves.JobMove.TheVariants as moves
-use Rattle.smp_serve.specs.Hearing.{LinkState, HearsAll, HearsBefore, HearsOne, with_all}
-use Rattle.smp_serve.specs.Driving.{DrivesTo, DrivesToEnd, Drives, Drove, DroveToEnd, HearsAt, IsRunning, TurnedOn, TurnedToEnd, TurnStarved, TurnUnheard, TurnUnsent, TurnsTo, TurnsToEnd, WantsAt, bytes_sent, sends_first, takes_turn, to_peer, turn_of}
+use Rattle.smp_serve.specs.Hearing.{LinkState, HearsAll, HearsOne, with_all}
+use Rattle.smp_serve.specs.Driving.{DrivesTo, DrivesToEnd, Drove, DroveToEnd, HearsAt, IsRunning, TurnedOn, TurnedToEnd, TurnStarved, TurnUnheard, TurnUnsent, TurnsTo, TurnsToEnd, WantsAt, bytes_sent, sends_first, takes_turn, to_peer, turn_of}
 use Rattle.smp_serve.specs.declared.driving.ClientFault.{ClientFault}
 use Rattle.smp_serve.specs.declared.driving.ClientFault.TheVariants as faults
 use Rattle.smp_serve.proofs.ClientTurns.{never_over, packet_is, sends_own, told_done, told_sends, told_waits}

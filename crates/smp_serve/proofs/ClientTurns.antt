@@ -1,5 +1,5 @@
 -- A client's turn, and what its job tells of it.
-use Rattle.std.proofs.Common.{◌≡◌, ◌⊎◌, ◌+◌, ℕ, Bool, true, false, inl, inr, List, [], ◌∷◌, ◌++◌, Option, Some, None, refl, ap, sym, ◌∙◌, subst, cond}
+use Rattle.std.proofs.Common.{◌≡◌, ◌+◌, ℕ, Bool, true, false, List, ◌∷◌, Option, Some, None, refl, sym, subst}
 use Rattle.std.specs.Prelude.{if◌then◌else◌}
 use Rattle.smp_edge.specs.declared.scripts.Scripted.{Scripted}
 use Rattle.smp_edge.specs.declared.scripts.Scripted.TheVariants as items
@@ -7,13 +7,12 @@ use Rattle.smp_header.specs.Message.{Message, packet}
 use Rattle.smp_model.specs.Packets.{packet_bytes}
 use Rattle.smp_client.specs.Requests as reactions
 use Rattle.smp_client.specs.Requests.{Open, Reaction, Moved, answer_of_packet, by_answer, hears_bytes, wait_ends}
-use Rattle.smp_jobs.specs.Clients.{Client, Turn, after_moved, after_reaction, asks_for, client_hears_bytes, goes_on, sends, stops, with_answer}
+use Rattle.smp_jobs.specs.Clients.{Client, Turn, after_moved, after_reaction, asks_for, client_hears_bytes, goes_on, stops, with_answer}
 use Rattle.smp_jobs.specs.Jobs.{End, Next, asks, ends, next, done, no_answer, refused, mismatch, stalled, may_send}
-use Rattle.smp_jobs.specs.States.{HearsWant, JobState, Runs, Stands, StandsBy, Turns, WantsMemory, packet_in, printed_in, told_as, told_by}
+use Rattle.smp_jobs.specs.States.{HearsWant, JobState, Stands, StandsBy, Turns, WantsMemory, packet_in, told_by}
 use Rattle.smp_jobs.specs.declared.moves.JobMove.{JobMove}
 use Rattle.smp_jobs.specs.declared.moves.JobMove.TheVariants as moves
-use Rattle.smp_jobs.specs.declared.moves.JobEnd.TheVariants as job_ends
-use Rattle.smp_serve.specs.Driving.{WantsAt, turn_of}
+use Rattle.smp_serve.specs.Driving.{turn_of}
 
 -- What a client does at bytes goes by the packet that they are.
 pub at_packet : (c : Client) (held bytes : List ℕ) (job : JobState) (move : JobMove) → packet held ≡ packet bytes

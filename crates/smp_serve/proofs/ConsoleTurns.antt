@@ -1,5 +1,5 @@
 -- Pieces of text that a device serves.
-use Rattle.std.proofs.Common.{◌≡◌, ◌⊎◌, ◌+◌, ◌<◌, ◌≤◌, ℕ, suc, Bool, true, false, List, [], ◌∷◌, ◌++◌, length, map, take, drop, Option, Some, None, Result, Ok, Err, refl, ap, sym, ◌∙◌, subst, arith, append_assoc, length-append, take-append-drop}
+use Rattle.std.proofs.Common.{◌≡◌, ◌+◌, ◌<◌, ◌≤◌, ℕ, Bool, true, false, List, [], ◌∷◌, ◌++◌, length, map, take, drop, Option, Some, None, Err, refl, ap, sym, ◌∙◌, subst, arith, append_assoc, length-append, take-append-drop}
 use Rattle.std.specs.Prelude.{not}
 use Rattle.std.specs.Io.KnownBytes.{IsAtEnd, append_known, prepend_known}
 use Rattle.std.specs.List.{flat_map}
@@ -13,8 +13,8 @@ use Rattle.smp_upload.specs.declared.states.UploadFault.{UploadFault}
 use Rattle.smp_upload.specs.declared.states.UploadFault.TheVariants as starts
 use Rattle.smp_device.specs.declared.answering.Down.{Down}
 use Rattle.smp_device.specs.declared.answering.Down.TheVariants as downs
-use Rattle.smp_serve.specs.Consoles.{ArePieces, ConsoleEnds, ConsoleSession, ConsoleServes, ConsoleSpent, ConsoleStops, ConsoleUnread, IsAtPacket, PieceEnds, PieceServes, PieceStops, PiecesServed, Replies, RepliesStop, RepliesTo, TakesPiece, joined, most_pieces, packet_in, reply_text, text_if}
-use Rattle.smp_serve.specs.Sessions.{Exchange, Point, Serves, Stop, down_fault, exchange, packet_at, start_fault}
+use Rattle.smp_serve.specs.Consoles.{ArePieces, ConsoleEnds, ConsoleSession, ConsoleServes, ConsoleSpent, ConsoleStops, ConsoleUnread, IsAtPacket, PieceEnds, PieceServes, PieceStops, PiecesServed, Replies, RepliesStop, TakesPiece, joined, most_pieces, packet_in, reply_text, text_if}
+use Rattle.smp_serve.specs.Sessions.{Exchange, Point, Serves, down_fault, exchange, packet_at, start_fault}
 use Rattle.smp_serve.specs.declared.fault.ServeFault.{ServeFault}
 use Rattle.smp_serve.specs.declared.fault.ServeFault.TheVariants as faults
 use Rattle.smp_serve.proofs.Packets.{serves_more, serves_nothing, serves_one}

@@ -9,7 +9,7 @@ use Rattle.smp_flash.specs.declared.geometry.Geometry.{Geometry}
 use Rattle.smp_header.specs.Message.{Message, packet}
 use Rattle.smp_model.specs.declared.device.Counters.{Counters}
 use Rattle.smp_model.specs.declared.reply.Reply.{Reply}
-use Rattle.smp_model.specs.Handled.{is_request, is_reset}
+use Rattle.smp_model.specs.Handled.{is_request}
 use Rattle.smp_model.specs.Meaning.{meaning}
 use Rattle.smp_model.specs.Meant.{Meant}
 use Rattle.smp_model.specs.Said.{Said}

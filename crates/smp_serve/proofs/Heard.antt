@@ -1,6 +1,6 @@
 -- What is heard over a link.
-use Rattle.std.proofs.Common.{◌≡◌, ◌⊎◌, ℕ, zero, suc, ◌+◌, ◌<◌, ◌≤◌, Bool, true, false, inl, inr, List, [], ◌∷◌, ◌++◌, length, take, drop, min, Option, Some, None, refl, ap, sym, ◌∙◌, subst, arith, add-one, append_assoc}
-use Rattle.std.specs.Prelude.{IfSome, if◌then◌else◌, nat_le, ◌&&◌, ◌==◌, option_map}
+use Rattle.std.proofs.Common.{◌≡◌, ℕ, zero, suc, ◌+◌, ◌<◌, Bool, true, false, inl, inr, List, [], ◌∷◌, ◌++◌, length, take, drop, min, Option, Some, None, refl, ap, sym, ◌∙◌, subst, arith, add-one, append_assoc}
+use Rattle.std.specs.Prelude.{IfSome, if◌then◌else◌, nat_le, ◌&&◌, ◌==◌}
 use Rattle.std.proofs.lemmas.Bool.Decides.{nat_tests}
 use Rattle.std.proofs.lemmas.Bool.{cases_lt}
 use Rattle.std.proofs.lemmas.List.{take_all, length-take, append-nil, drop-drop, length_push}
@@ -11,9 +11,9 @@ use Rattle.smp_edge.specs.declared.link.Peer.{Peer}
 use Rattle.smp_edge.specs.declared.scripts.Scripted.{Scripted}
 use Rattle.smp_edge.specs.declared.scripts.Scripted.TheVariants as items
 use Rattle.smp_edge.specs.declared.scripts.Sent.{Sent}
-use Rattle.smp_header.specs.Message.{Message, packet, is_packet, number_at}
+use Rattle.smp_header.specs.Message.{Message, packet, number_at}
 use Rattle.smp_header.specs.declared.TheConstants.{HEADER, LARGEST_PACKET}
-use Rattle.smp_serve.specs.Hearing.{HearsOne, HearsAll, HearsBefore, heard_of, with_all, without}
+use Rattle.smp_serve.specs.Hearing.{HearsOne, HearsAll, heard_of, with_all}
 
 no_packet : (x y z : Bool) (m : Message) → y ≡ false → (if x && y && z then Some m else None) ≡ None
 no_packet true true z m h = cc

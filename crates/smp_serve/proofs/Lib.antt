@@ -5,3 +5,7 @@ pub mod Handlings
 pub mod Packets
 pub mod LinkTurns
 pub mod ConsoleTurns
+pub mod DevicePackets
+pub mod DeviceDowns
+pub mod DeviceSessions
+pub mod SessionEnds

@@ -1,17 +1,16 @@
 -- Turns of a device that serves over a link.
-use Rattle.std.proofs.Common.{◌≡◌, ◌⊎◌, ◌+◌, ◌<◌, ◌≤◌, ℕ, suc, Bool, true, false, inl, inr, List, [], ◌∷◌, ◌++◌, length, map, Option, Some, None, Result, Ok, Err, refl, ap, sym, ◌∙◌, subst, arith, add-one, length-append}
+use Rattle.std.proofs.Common.{◌≡◌, ◌+◌, ◌<◌, ◌≤◌, ℕ, Bool, true, false, inl, inr, List, [], ◌∷◌, ◌++◌, length, map, Option, Some, None, Err, refl, ap, sym, ◌∙◌, subst, arith, length-append}
 use Rattle.std.specs.Prelude.{is_some, if◌then◌else◌}
 use Rattle.std.specs.List.{flat_map}
 use Rattle.std.proofs.lemmas.List.{append-nil, map-append, length_push}
 use Rattle.std.proofs.lemmas.Grind.{flat_map-append}
-use Rattle.smp_edge.specs.Link.{with_sent}
 use Rattle.smp_edge.specs.declared.link.Peer.{Peer}
 use Rattle.smp_edge.specs.declared.scripts.Scripted.{Scripted}
 use Rattle.smp_edge.specs.declared.scripts.Scripted.TheVariants as items
 use Rattle.smp_edge.specs.declared.scripts.Sent.{Sent}
 use Rattle.smp_header.specs.Message.{packet}
 use Rattle.smp_serve.specs.Hearing.{HearsOne, LinkState, with_all}
-use Rattle.smp_serve.specs.Links.{Answers, AnswersStop, Datagram, Letter, LinkEnds, LinkServes, LinkSession, LinkStops, SendsLast, TurnEnds, TurnPasses, TurnStops, datagram_in, datagram_of, exchange_of, reply_to, sent_if}
+use Rattle.smp_serve.specs.Links.{Answers, AnswersStop, Datagram, Letter, LinkEnds, LinkServes, LinkSession, SendsLast, TurnEnds, TurnPasses, TurnStops, datagram_in, datagram_of, exchange_of, reply_to, sent_if}
 use Rattle.smp_serve.specs.Sessions.{Exchange, Point, Serves, Stop, Stops, exchange, fell, packet_at, stop_fault, unsent, unstarted}
 use Rattle.smp_serve.specs.declared.fault.ServeFault.{ServeFault}
 use Rattle.smp_serve.specs.declared.fault.ServeFault.TheVariants as faults

@@ -1,8 +1,8 @@
 -- Packets that a device is given.
-use Rattle.std.proofs.Common.{◌≡◌, ◌⊎◌, List, [], ◌∷◌, ◌++◌, ℕ, Option, Some, None, Result, Ok, Err, refl, ap, sym, ◌∙◌, subst, append_assoc}
+use Rattle.std.proofs.Common.{◌≡◌, List, [], ◌∷◌, ◌++◌, ℕ, Option, Some, None, Result, Ok, Err, refl, ap, sym, ◌∙◌, subst, append_assoc}
 use Rattle.std.proofs.lemmas.List.{append-nil}
 use Rattle.smp_flash.specs.State.{FlashState}
-use Rattle.smp_header.specs.Message.{Message, packet}
+use Rattle.smp_header.specs.Message.{packet}
 use Rattle.smp_upload.specs.declared.states.UploadFault.{UploadFault}
 use Rattle.smp_device.specs.Handling.{DeviceState, Handles}
 use Rattle.smp_device.specs.Starting.{Restarts}
@@ -10,7 +10,7 @@ use Rattle.smp_device.specs.Up.{IsWhole}
 use Rattle.smp_device.specs.declared.answering.Down.{Down}
 use Rattle.smp_device.specs.declared.answering.Handled.{Handled}
 use Rattle.smp_device.specs.declared.answering.Handled.TheVariants as handleds
-use Rattle.smp_serve.specs.Sessions.{Exchange, HandlesAt, Passes, Point, Serves, StartsAt, exchange, no_packet, one_packet, point, reply_of}
+use Rattle.smp_serve.specs.Sessions.{Exchange, HandlesAt, Passes, Point, Serves, StartsAt, exchange, no_packet, one_packet, point}
 use Rattle.smp_serve.proofs.Handlings.{handled_alike}
 
 pub handled_at : (bytes out : List ℕ) (r : Result Handled Down) (x h : Handled) (old new : DeviceState) (a b : FlashState) → r ≡ Ok x → x ≡ h

@@ -1,11 +1,12 @@
 -- A device that serves over a console.
-use Rattle.std.specs.Prelude.{◌≡◌, ◌⊎◌, ◌-◌, ◌^◌, ◌≤◌, ℕ, Bool, List, [], ◌∷◌, ◌++◌, map, flat_map, length, take, is_some, Option, Some, None, Result, Ok, Err}
+use Rattle.std.specs.Prelude.{◌≡◌, ◌-◌, ◌^◌, ◌≤◌, ℕ, List, [], ◌∷◌, ◌++◌, map, flat_map, length, take, Option, Some, None, Result, Ok, Err}
 use Rattle.std.specs.Io.KnownBytes.{IsAtEnd, append_known, prepend_known}
 use Rattle.smp_edge.specs.Faults.{Rose}
 use Rattle.smp_edge.specs.Sink.{AppendsFront}
 use Rattle.smp_console.specs.Frames.{frames}
 use Rattle.smp_console.specs.Framing.{frame}
 use Rattle.smp_console.specs.Receiving.{Received, HasText}
+use Rattle.smp_serve.specs.Devices.{IsServed, IsStopped}
 use Rattle.smp_serve.specs.Sessions.{Exchange, Passes, Point, Serves, Stop, Stops, exchange, packet_at, stop_fault, unsent, fell, unstarted}
 use Rattle.smp_serve.specs.declared.fault.ServeFault.{ServeFault}
 use Rattle.smp_serve.specs.declared.fault.ServeFault.TheVariants as faults
@@ -111,6 +112,21 @@ ConsoleEnds (Err faults.FlashFault) a b left rest old new = ConsoleStops faults.
 ConsoleEnds (Err faults.FlashOff) a b left rest old new = ConsoleStops faults.FlashOff a b left rest old new
 ConsoleEnds (Err faults.Unformatted) a b left rest old new = ConsoleStops faults.Unformatted a b left rest old new
 ConsoleEnds (Err faults.Worn) a b left rest old new = ConsoleStops faults.Worn a b left rest old new
+
+-- And so of the device: what was replied is what the device replies that flash and value stand for.
+abbrev pub StopsOf : ServeFault → (a b : Point) → (left rest old new : Option (List ℕ)) → Type 0
+StopsOf fault a b left rest old new = (s : ConsoleStops fault a b left rest old new) × IsStopped s.stop a s.stops.before b s.stops.exchanges
+
+abbrev pub ConsoleEndsOf : Result (Unit {0}) ServeFault → (a b : Point) → (left rest old new : Option (List ℕ)) → Type 0
+ConsoleEndsOf (Ok x) a b left rest old new = (s : ConsoleServes a b left rest old new) × IsServed a b s.served.exchanges
+ConsoleEndsOf (Err faults.Read) a b left rest old new = (s : ConsoleUnread a b left rest old new) × IsServed a b s.served.exchanges
+ConsoleEndsOf (Err faults.Spent) a b left rest old new = (s : ConsoleSpent a b left rest old new) × IsServed a b s.served.exchanges
+ConsoleEndsOf (Err faults.Link) a b left rest old new = ⊥
+ConsoleEndsOf (Err faults.Write) a b left rest old new = StopsOf faults.Write a b left rest old new
+ConsoleEndsOf (Err faults.FlashFault) a b left rest old new = StopsOf faults.FlashFault a b left rest old new
+ConsoleEndsOf (Err faults.FlashOff) a b left rest old new = StopsOf faults.FlashOff a b left rest old new
+ConsoleEndsOf (Err faults.Unformatted) a b left rest old new = StopsOf faults.Unformatted a b left rest old new
+ConsoleEndsOf (Err faults.Worn) a b left rest old new = StopsOf faults.Worn a b left rest old new
 
 -- The counts of faults of the sink and of the source: each rose exactly where it is the answer.
 abbrev pub WriteCaused : {T : Type 0} → Result T ServeFault → ℕ → ℕ → Type 0

@@ -1,7 +1,6 @@
 -- What is heard and sent over a link, by what the link tells of itself.
 use Rattle.std.specs.Prelude.{◌≡◌, ◌⊎◌, ℕ, zero, suc, List, [], ◌∷◌, ◌++◌, length, drop, Option, IfSome, option_map}
 use Rattle.smp_edge.specs.Link.{next_item, without_next}
-use Rattle.smp_edge.specs.declared.link.Peer.{Peer}
 use Rattle.smp_edge.specs.declared.scripts.Scripted.{Scripted}
 use Rattle.smp_edge.specs.declared.scripts.Sent.{Sent}
 

@@ -6,6 +6,7 @@ use Rattle.smp_edge.specs.declared.link.Peer.{Peer}
 use Rattle.smp_edge.specs.declared.scripts.Scripted.{Scripted}
 use Rattle.smp_edge.specs.declared.scripts.Scripted.TheVariants as items
 use Rattle.smp_edge.specs.declared.scripts.Sent.{Sent}
+use Rattle.smp_serve.specs.Devices.{IsServed, IsStopped}
 use Rattle.smp_serve.specs.Hearing.{LinkState, HearsAll, HearsOne, with_all}
 use Rattle.smp_serve.specs.Sessions.{Exchange, Passes, Point, Serves, Stop, Stops, exchange, packet_at, stop_fault, unsent, fell, unstarted}
 use Rattle.smp_serve.specs.declared.fault.ServeFault.{ServeFault}
@@ -94,6 +95,13 @@ pub record LinkStopsBy (turns : ℕ) (fault : ServeFault) (a b : Point) (x y : L
 abbrev pub LinkEnds : (turns : ℕ) → Result Served ServeFault → (a b : Point) → (x y : LinkState) → Type 0
 LinkEnds turns (Ok served) a b x y = LinkServes turns served a b x y
 LinkEnds turns (Err fault) a b x y = ((fault ≡ faults.Link) × LinkUnheard turns a b x y) ⊎ LinkStopsBy turns fault a b x y
+
+-- And so of the device: what was replied is what the device replies that flash and value stand for.
+abbrev pub LinkEndsOf : (turns : ℕ) → Result Served ServeFault → (a b : Point) → (x y : LinkState) → Type 0
+LinkEndsOf turns (Ok served) a b x y = (s : LinkServes turns served a b x y) × IsServed a b (map exchange_of s.letters)
+LinkEndsOf turns (Err fault) a b x y =
+    ((fault ≡ faults.Link) × ((u : LinkUnheard turns a b x y) × IsServed a b (map exchange_of u.letters)))
+    ⊎ ((s : LinkStopsBy turns fault a b x y) × IsStopped s.stop a s.stops.before b (map exchange_of s.stops.letters))
 
 -- The count of the link's faults rose exactly where that is the answer.
 abbrev pub LinkCaused : {T : Type 0} → Result T ServeFault → ℕ → ℕ → Type 0

@@ -10,3 +10,6 @@ pub use console_serving::serve_console;
 pub use driving::{ClientFault, drive_client};
 pub use fault::ServeFault;
 pub use link_serving::{Served, serve_link};
+
+#[cfg(test)]
+mod tests;

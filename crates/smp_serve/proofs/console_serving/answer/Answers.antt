@@ -1,4 +1,4 @@
-use Rattle.std.proofs.Common.{◌≡◌, List, ℕ, Some, None, Ok, Err, refl, ap, sym, ◌∙◌, subst}
+use Rattle.std.proofs.Common.{List, ℕ, Some, None, Ok, Err, refl, ap, sym, ◌∙◌, subst}
 use Rattle.smp_flash.specs.Layout.{geometry_of}
 use Rattle.std.specs.Io.KnownBytes.{append_known}
 use Rattle.smp_edge.specs.Sink.{AppendsFront}

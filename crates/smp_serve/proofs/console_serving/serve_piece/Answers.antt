@@ -1,4 +1,4 @@
-use Rattle.std.proofs.Common.{◌≡◌, refl, ◌∙◌}
+use Rattle.std.proofs.Common.{refl, ◌∙◌}
 use Rattle.smp_serve.specs.Sessions.{point}
 use Rattle.smp_serve.proofs.ConsoleTurns.{not_false, piece_begins, piece_goes, piece_stops}
 use Rattle.smp_serve.proofs.console_serving.serve_piece.Goals as goal

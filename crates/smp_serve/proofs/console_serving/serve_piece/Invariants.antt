@@ -1,6 +1,5 @@
 use Rattle.std.proofs.Common.{◌≡◌, ℕ, List, length}
 use Rattle.std.specs.Prelude.{IsSome, IfSome}
-use Rattle.smp_flash.specs.Layout.{geometry_of}
 use Rattle.smp_console.specs.Receiving.{HasText}
 use Rattle.smp_device.specs.Handling.{DeviceSays}
 use Rattle.smp_serve.specs.Sessions.{point}

@@ -1,7 +1,7 @@
-use Rattle.std.proofs.Common.{◌≡◌, ◌<◌, ◌≤◌, length, take, refl, ◌∙◌, arith}
+use Rattle.std.proofs.Common.{◌≡◌, ◌≤◌, length, take, refl, ◌∙◌, arith}
 use Rattle.smp_serve.specs.Consoles.{most_pieces}
 use Rattle.smp_serve.specs.Sessions.{point}
-use Rattle.smp_serve.proofs.ConsoleTurns.{piece_length, pieces_begin, pieces_end, pieces_more, pieces_spent, pieces_stop, pieces_unread, takes_end, takes_some}
+use Rattle.smp_serve.proofs.ConsoleTurns.{piece_length, pieces_begin, pieces_more, pieces_spent, pieces_stop, takes_some}
 use Rattle.smp_serve.proofs.console_serving.serve_pieces.Goals as goal
 
 pub pieces-init : goal.pieces-init

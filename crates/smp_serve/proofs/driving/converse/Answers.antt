@@ -1,5 +1,5 @@
-use Rattle.std.proofs.Common.{◌≡◌, ◌∙◌, arith}
-use Rattle.smp_serve.specs.Hearing.{LinkState, link_state}
+use Rattle.std.proofs.Common.{◌∙◌, arith}
+use Rattle.smp_serve.specs.Hearing.{link_state}
 use Rattle.smp_serve.proofs.ClientDrives.{begins, begins_unsent, ends_with, comes_to_end, goes_on}
 use Rattle.smp_serve.proofs.driving.converse.Goals as goal
 

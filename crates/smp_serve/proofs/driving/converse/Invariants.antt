@@ -1,4 +1,4 @@
-use Rattle.std.proofs.Common.{◌≡◌, Option, None, length}
+use Rattle.std.proofs.Common.{◌≡◌, None, length}
 use Rattle.smp_jobs.specs.Clients.{Client}
 use Rattle.smp_jobs.specs.States.{Stands, left}
 use Rattle.smp_serve.specs.Driving.{IsRunning}

@@ -1,9 +1,8 @@
-use Rattle.std.proofs.Common.{◌≡◌, Some, None, Ok, Err, refl, ap, sym, ◌∙◌, inl, inr}
+use Rattle.std.proofs.Common.{Some, None, Ok, Err, refl, ap, sym, ◌∙◌, inl, inr}
 use Rattle.smp_flash.specs.Layout.{geometry_of}
 use Rattle.smp_edge.specs.Link.{with_sent}
 use Rattle.smp_device.specs.Places.{Places}
 use Rattle.smp_device.specs.declared.answering.Handled.TheVariants as handleds
-use Rattle.smp_serve.specs.Links.{Answers, AnswersStop, SendsLast}
 use Rattle.smp_serve.specs.Sessions.{fell, point, unsent, unstarted}
 use Rattle.smp_serve.proofs.Handlings.{after_handling, is_up_by, start_sizes}
 use Rattle.smp_serve.proofs.Heard.{sends_nothing}

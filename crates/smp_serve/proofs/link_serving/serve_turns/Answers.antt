@@ -1,4 +1,4 @@
-use Rattle.std.proofs.Common.{◌≡◌, ◌+◌, ◌<◌, ◌≤◌, refl, ◌∙◌, arith, rules}
+use Rattle.std.proofs.Common.{◌+◌, refl, ◌∙◌, arith}
 use Rattle.smp_serve.specs.Hearing.{link_state}
 use Rattle.smp_serve.specs.Sessions.{point}
 use Rattle.smp_serve.proofs.LinkTurns.{few_more, no_turns, serves_turn, turn_ends}

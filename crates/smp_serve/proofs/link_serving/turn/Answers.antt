@@ -1,4 +1,4 @@
-use Rattle.std.proofs.Common.{◌≡◌, length, take, arith, refl, ap, sym, ◌∙◌, inl, inr}
+use Rattle.std.proofs.Common.{◌≡◌, length, take, arith, refl, ap, sym, ◌∙◌, inr}
 use Rattle.smp_serve.specs.Hearing.{link_state}
 use Rattle.smp_serve.specs.Sessions.{point}
 use Rattle.smp_serve.proofs.Heard.{hears_packet, hears_quiet}
