@@ -9,3 +9,4 @@ pub mod DevicePackets
 pub mod DeviceDowns
 pub mod DeviceSessions
 pub mod SessionEnds
+pub mod Causes

@@ -1,6 +1,9 @@
 -- A device that serves: what comes of packets that are given to it one after the other, and how a session stops at one.
-use Rattle.std.specs.Prelude.{◌≡◌, ◌++◌, List, [], ◌∷◌, ℕ, Option, Some, None, Result, Ok, Err}
-use Rattle.smp_flash.specs.State.{FlashState}
+use Rattle.std.specs.Prelude.{◌≡◌, ◌≤◌, ◌++◌, false, List, [], ◌∷◌, ℕ, Option, Some, None, Result, Ok, Err}
+use Rattle.smp_flash.specs.Calls.{Rose}
+use Rattle.smp_flash.specs.State.{Faults, FlashState}
+use Rattle.smp_flash.specs.declared.flash.Operation.{Operation}
+use Rattle.smp_flash.specs.declared.flash.Operation.TheVariants.{Read, Write, Erase}
 use Rattle.smp_upload.specs.declared.states.UploadFault.{UploadFault}
 use Rattle.smp_upload.specs.declared.states.UploadFault.TheVariants as starts
 use Rattle.smp_device.specs.Handling.{DeviceState, Handles}
@@ -116,3 +119,27 @@ abbrev pub stop_fault : ServeFault → Stop → ServeFault
 stop_fault sending (unsent packet reply) = sending
 stop_fault sending (fell packet down) = down_fault down
 stop_fault sending (unstarted packet reply fault) = start_fault fault
+
+-- no number of failures of the flash fell
+pub record NoFewer (a b : Faults) : Type 0 where
+  pub reads : a.reads ≤ b.reads
+  pub writes : a.writes ≤ b.writes
+  pub erases : a.erases ≤ b.erases
+
+-- the number of an operation rose
+abbrev pub RoseAt : Operation → Faults → Faults → Type 0
+RoseAt Read a b = Rose a.reads b.reads
+RoseAt Write a b = Rose a.writes b.writes
+RoseAt Erase a b = Rose a.erases b.erases
+
+-- By the answer of a session: the flash is off, or a number of its failures rose. Another answer tells nothing of it.
+abbrev pub FlashCaused : {T : Type 0} → Result T ServeFault → FlashState → FlashState → Type 0
+FlashCaused (Err faults.FlashOff) a b = b.on ≡ false
+FlashCaused (Err faults.FlashFault) a b = (operation : Operation) × RoseAt operation a.faults b.faults
+FlashCaused (Err faults.Unformatted) a b = Unit {0}
+FlashCaused (Err faults.Worn) a b = Unit {0}
+FlashCaused (Err faults.Read) a b = Unit {0}
+FlashCaused (Err faults.Write) a b = Unit {0}
+FlashCaused (Err faults.Link) a b = Unit {0}
+FlashCaused (Err faults.Spent) a b = Unit {0}
+FlashCaused (Ok x) a b = Unit {0}
