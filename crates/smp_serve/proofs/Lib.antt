@@ -10,3 +10,4 @@ pub mod DeviceDowns
 pub mod DeviceSessions
 pub mod SessionEnds
 pub mod Causes
+pub mod Pendings

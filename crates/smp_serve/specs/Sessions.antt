@@ -1,12 +1,15 @@
 -- A device that serves: what comes of packets that are given to it one after the other, and how a session stops at one.
 use Rattle.std.specs.Prelude.{◌≡◌, ◌≤◌, ◌++◌, false, List, [], ◌∷◌, ℕ, Option, Some, None, Result, Ok, Err}
+use Rattle.smp_flash.specs.Area.{Told}
 use Rattle.smp_flash.specs.Calls.{Rose}
 use Rattle.smp_flash.specs.State.{Faults, FlashState}
 use Rattle.smp_flash.specs.declared.flash.Operation.{Operation}
 use Rattle.smp_flash.specs.declared.flash.Operation.TheVariants.{Read, Write, Erase}
+use Rattle.smp_upload.specs.Moves.{KeepsPending}
 use Rattle.smp_upload.specs.declared.states.UploadFault.{UploadFault}
 use Rattle.smp_upload.specs.declared.states.UploadFault.TheVariants as starts
 use Rattle.smp_device.specs.Handling.{DeviceState, Handles}
+use Rattle.smp_device.specs.Places.{AtEach}
 use Rattle.smp_device.specs.Starting.{Restarts}
 use Rattle.smp_device.specs.Up.{IsWhole}
 use Rattle.smp_device.specs.declared.answering.Down.{Down}
@@ -143,3 +146,8 @@ FlashCaused (Err faults.Write) a b = Unit {0}
 FlashCaused (Err faults.Link) a b = Unit {0}
 FlashCaused (Err faults.Spent) a b = Unit {0}
 FlashCaused (Ok x) a b = Unit {0}
+
+-- Where the secondary slot of an image is pending, no byte of it changes. The value holds the places that its flash has, as every
+-- value of a device does.
+abbrev pub PendingStays : (a b : Point) → Type 0
+PendingStays a b = IsWhole a.device.places a.device.up a.device.settings → AtEach (λ l. Told (KeepsPending l) a.flash.bytes b.flash.bytes) a.device.places

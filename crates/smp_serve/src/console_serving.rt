@@ -6,7 +6,7 @@ ghost use Rattle.smp_flash.specs.Layout.{geometry_of};
 ghost use Rattle.smp_console.specs.Receiving.{HasText};
 ghost use Rattle.smp_device.specs.Handling.{DeviceSays};
 ghost use Rattle.smp_serve.specs.Consoles.{ConsoleEnds, ConsoleEndsOf, IsAtPacket, PieceEnds, ReadCaused, RepliesTo, TakesPiece, WriteCaused};
-ghost use Rattle.smp_serve.specs.Sessions.{FlashCaused, point};
+ghost use Rattle.smp_serve.specs.Sessions.{FlashCaused, PendingStays, point};
 
 use crate::fault::{ServeFault, down_fault, start_fault};
 use arrayvec::ArrayVec;
@@ -163,6 +163,7 @@ pub fn serve_console<F: Flash, I: Source, O: Sink>(
     requires says { IfSome (F.state flash.old).bytes (DeviceSays device.old) }
     ensures serves { ConsoleEndsOf result (point device.old (F.state flash.old)) (point device.new (F.state flash.new)) (I.left input.old) (I.left input.new) (O.written out.old) (O.written out.new) }
     ensures flash { FlashCaused result (F.state flash.old) (F.state flash.new) }
+    ensures pending { PendingStays (point device.old (F.state flash.old)) (point device.new (F.state flash.new)) }
     ensures up { OnOk result (IsSome device.new.up) }
     ensures places { device.new.places ≡ device.old.places }
     ensures sizes { (F.state flash.new).geometry ≡ (F.state flash.old).geometry }

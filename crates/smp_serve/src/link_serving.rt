@@ -6,7 +6,7 @@ ghost use Rattle.smp_device.specs.Handling.{DeviceSays};
 ghost use Rattle.smp_device.specs.Up.{IsWhole};
 ghost use Rattle.smp_serve.specs.Hearing.{link_state};
 ghost use Rattle.smp_serve.specs.Links.{AnswersTo, LinkCaused, LinkEnds, LinkEndsOf, TurnEnds};
-ghost use Rattle.smp_serve.specs.Sessions.{FlashCaused, point};
+ghost use Rattle.smp_serve.specs.Sessions.{FlashCaused, PendingStays, point};
 
 use crate::fault::{ServeFault, down_fault, start_fault};
 use arrayvec::ArrayVec;
@@ -164,6 +164,7 @@ pub fn serve_link<F: Flash, L: Link>(
     requires says { IfSome (F.state flash.old).bytes (DeviceSays device.old) }
     ensures serves { LinkEndsOf turns result (point device.old (F.state flash.old)) (point device.new (F.state flash.new)) (link_state (L.script link.old) (L.sent link.old)) (link_state (L.script link.new) (L.sent link.new)) }
     ensures flash { FlashCaused result (F.state flash.old) (F.state flash.new) }
+    ensures pending { PendingStays (point device.old (F.state flash.old)) (point device.new (F.state flash.new)) }
     ensures up { OnOk result (IsSome device.new.up) }
     ensures places { device.new.places ≡ device.old.places }
     ensures sizes { (F.state flash.new).geometry ≡ (F.state flash.old).geometry }
