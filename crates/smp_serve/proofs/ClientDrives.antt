@@ -18,7 +18,7 @@ use Rattle.smp_serve.specs.Hearing.{LinkState, HearsAll, HearsOne, with_all}
 use Rattle.smp_serve.specs.Driving.{DrivesTo, DrivesToEnd, Drove, DroveToEnd, HearsAt, IsRunning, TurnedOn, TurnedToEnd, TurnStarved, TurnUnheard, TurnUnsent, TurnsTo, TurnsToEnd, WantsAt, bytes_sent, sends_first, takes_turn, to_peer, turn_of}
 use Rattle.smp_serve.specs.declared.driving.ClientFault.{ClientFault}
 use Rattle.smp_serve.specs.declared.driving.ClientFault.TheVariants as faults
-use Rattle.smp_serve.proofs.ClientTurns.{never_over, packet_is, sends_own, told_done, told_sends, told_waits}
+use Rattle.smp_serve.proofs.ClientTurns.{done_prints, never_over, packet_is, sends_own, told_done, told_sends, told_waits}
 use Rattle.smp_serve.proofs.Heard.{hears_more, nothing_heard, sends_more, sends_nothing}
 
 -- One turn.
@@ -278,7 +278,7 @@ is_done : (c : Client) (peer : Peer) (old new : JobState) (a b d : LinkState) �
 is_done c peer old new a b d v turn =
     let o = turn v.now v.goes v.drove.stands in
     let ended = told_done (turn_of v.now o.item).client.ended (turn_of v.now o.item).packet o.ended in
-    record { now = (turn_of v.now o.item).client; drove = ended_so c peer old new a b d v o.item done o.hears ended o.sends o.stands; done = ended }
+    record { now = (turn_of v.now o.item).client; drove = ended_so c peer old new a b d v o.item done o.hears ended o.sends o.stands; done = ended; text = (done_prints new (turn_of v.now o.item).client ended o.stands).1 }
 
 -- by whether the turn goes on
 pub goes_on : (c : Client) (peer : Peer) (old new : JobState) (a b d : LinkState) (on : Bool) → on ≡ true → Conversing c peer old a b

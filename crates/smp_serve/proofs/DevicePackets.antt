@@ -1,9 +1,13 @@
 -- What a packet makes of the device that a flash and a value stand for.
-use Rattle.std.proofs.Common.{◌≡◌, ℕ, zero, suc, Bool, true, false, ◌||◌, List, Option, Some, None, Result, Ok, Err, refl, sym, ◌∙◌, ap, subst}
+use Rattle.std.proofs.Common.{◌≡◌, ℕ, zero, suc, Bool, true, false, ◌||◌, List, Option, Some, None, Result, Ok, Err, refl, sym, ◌∙◌, ap, subst, arith}
 use Rattle.std.specs.Prelude.{IfSome, IsTrue, is_some, if◌then◌else◌}
 use Rattle.smp_flash.specs.Area.{Told}
 use Rattle.smp_flash.specs.Layout.{geometry_of}
-use Rattle.smp_flash.specs.State.{FlashState}
+use Rattle.smp_flash.specs.Calls.{Passes, Rose}
+use Rattle.smp_flash.specs.declared.flash.Operation.{Operation}
+use Rattle.smp_flash.specs.declared.flash.Operation.TheVariants.{Read, Write, Erase}
+use Rattle.smp_flash.specs.State.{Faults, FlashState}
+use Rattle.smp_flash.specs.State.End.{Went, Failed}
 use Rattle.smp_flash.specs.declared.geometry.Geometry.{Geometry}
 use Rattle.smp_flash.specs.declared.layout.Layout.{Layout}
 use Rattle.smp_header.specs.Message.{Message, packet}
@@ -24,6 +28,7 @@ use Rattle.smp_model.specs.Said as said
 use Rattle.smp_model.specs.Said.{Said, is_error, reply_bytes, said_of}
 use Rattle.smp_model.specs.Steps.{Step, applied, counted, side_at}
 use Rattle.smp_settings.specs.Saved.{SettingsState}
+use Rattle.smp_upload.specs.Faults.{upload_fault_end}
 use Rattle.smp_upload.specs.declared.states.UploadFault.{UploadFault}
 use Rattle.smp_upload.specs.declared.states.UploadFault.TheVariants as faults
 use Rattle.smp_device.specs.Arming.{DeviceStands}
@@ -37,7 +42,7 @@ use Rattle.smp_device.specs.declared.answering.Down.{Down}
 use Rattle.smp_device.specs.declared.answering.Handled.{Handled}
 use Rattle.smp_device.specs.declared.answering.Handled.TheVariants as handleds
 use Rattle.smp_device.specs.declared.images.Images.{Images}
-use Rattle.smp_serve.specs.Devices.{BreaksOff, Came, Comes, Outcome, came_of, failed, is_answered, is_dropped, plainly, resets, worn}
+use Rattle.smp_serve.specs.Devices.{BreaksOff, Came, Comes, Outcome, came_of, failed, is_answered, is_dropped, plainly, resets, worn, RoseBy, count_of}
 use Rattle.smp_serve.specs.Sessions.{reply_of}
 
 -- a relation of told bytes, at bytes
@@ -90,6 +95,38 @@ stands_there (Some l) (Some s) bytes f = refl
 has_images : (p : Places) (t : ℕ) (d : AbstractDevice) (bytes : List ℕ) → ImagesStand p t d bytes → HasImages p t d
 has_images p t d bytes s = record { target_is = s.target_is; images = λ i. stands_there (place_at i p) (side_at i d) bytes (s.sides i) }
 
+-- What the flash counted.
+
+pub record RaisedOnce (outcome : Outcome) (a b : Faults) : Type 0 where
+  pub reads : RoseBy (count_of Read outcome) a.reads b.reads
+  pub writes : RoseBy (count_of Write outcome) a.writes b.writes
+  pub erases : RoseBy (count_of Erase outcome) a.erases b.erases
+
+still : (n m : ℕ) → m ≡ n → RoseBy 0 n m
+still n m e = record { kept = omega arith; most = omega arith; none = λ _. e }
+
+rises_once : (n m : ℕ) → Rose n m → RoseBy 1 n m
+rises_once n m r = let k = r.kept in record { kept = k; most = r.more; none = λ e. absurd (omega arith) }
+
+raised_plainly : (a b : Faults) → b ≡ a → RaisedOnce plainly a b
+raised_plainly a b e = record {
+  reads = still a.reads b.reads (ap (λ (f : Faults). f.reads) e);
+  writes = still a.writes b.writes (ap (λ (f : Faults). f.writes) e);
+  erases = still a.erases b.erases (ap (λ (f : Faults). f.erases) e);
+}
+
+raised_worn : (a b : FlashState) → Passes Went a b → RaisedOnce worn a.faults b.faults
+raised_worn a b p = record {
+  reads = still a.faults.reads b.faults.reads (ap (λ (f : Faults). f.reads) p.faults);
+  writes = still a.faults.writes b.faults.writes (ap (λ (f : Faults). f.writes) p.faults);
+  erases = still a.faults.erases b.faults.erases (ap (λ (f : Faults). f.erases) p.faults);
+}
+
+raised_by : (operation : Operation) (a b : FlashState) → Passes (Failed operation) a b → RaisedOnce (failed operation) a.faults b.faults
+raised_by Read a b p = record { reads = rises_once a.faults.reads b.faults.reads p.rises.0; writes = still a.faults.writes b.faults.writes p.rises.1; erases = still a.faults.erases b.faults.erases p.rises.2 }
+raised_by Write a b p = record { reads = still a.faults.reads b.faults.reads p.rises.0; writes = rises_once a.faults.writes b.faults.writes p.rises.1; erases = still a.faults.erases b.faults.erases p.rises.2 }
+raised_by Erase a b p = record { reads = still a.faults.reads b.faults.reads p.rises.0; writes = still a.faults.writes b.faults.writes p.rises.1; erases = rises_once a.faults.erases b.faults.erases p.rises.2 }
+
 -- Before a packet, and after one that was answered.
 
 pub record Before (up : Up) (d : AbstractDevice) (u : List ℕ) (a : FlashState) : Type 0 where
@@ -102,12 +139,13 @@ is_resetting handleds.Reply = false
 is_resetting handleds.ReplyThenReset = true
 is_resetting handleds.Dropped = false
 
-pub record CameSo (sizes_of_it : Geometry) (to : Option Message) (p : Places) (settings : SettingsState) (files : List StoredFile) (counters : Counters) (left : Option Images) (d : AbstractDevice) (h : Handled) (out : List ℕ) (b : FlashState) : Type 0 where
+pub record CameSo (sizes_of_it : Geometry) (to : Option Message) (p : Places) (settings : SettingsState) (files : List StoredFile) (counters : Counters) (left : Option Images) (d : AbstractDevice) (h : Handled) (out : List ℕ) (a b : FlashState) : Type 0 where
   pub outcome : Outcome
   pub came : Came
   pub comes : Comes (sizes_of sizes_of_it) d to outcome came
   pub reply : reply_of h out ≡ came.reply
   pub resets_so : resets to ≡ is_resetting h
+  pub raised : RaisedOnce outcome a.faults b.faults
   pub held : List ℕ
   pub bytes : b.bytes ≡ Some held
   pub stands : Stands p came.device.target came.device held
@@ -133,7 +171,7 @@ asked_resets m b e f = ap (λ (x : Bool). if x then is_reset (meaning m) else fa
 -- it was answered as the device's definition says
 ok_came : (g : Geometry) (to : Message) (m : Meant) (up : Up) (settings : SettingsState) (files : List StoredFile) (counters : Counters) (images : Images) (reply : Reply) (d : AbstractDevice) (u out : List ℕ) (left : Option Images)
     (result : Result Handled Down) (h : Handled) (a b : FlashState) → is_request to ≡ true → meaning to ≡ Ok m → result ≡ Ok h → Before up d u a → Serves g (Ok m) up (up_of images settings files up.counters) (Ok reply) a b
-    → Sent to (said_of reply) (is_reset (Ok m)) up.counters counters images out left result → CameSo g (Some to) (places_of up.images) settings files counters left d h out b
+    → Sent to (said_of reply) (is_reset (Ok m)) up.counters counters images out left result → CameSo g (Some to) (places_of up.images) settings files counters left d h out a b
 ok_came g to m up settings files counters images reply d u out left result h a b asked means is before serves sent =
     let p = places_of up.images in
     let after_up = up_of images settings files up.counters in
@@ -150,6 +188,7 @@ ok_came g to m up settings files counters images reply d u out left result h a b
           ∙ asked_came g to d asked;
       reply = reply_so (is_reset (Ok m)) h out (reply_bytes to (said_of reply)) named sent.written;
       resets_so = asked_resets to (is_reset (Ok m)) asked (ap is_reset means) ∙ resets_by (is_reset (Ok m)) h named;
+      raised = raised_plainly a.faults b.faults serves.calls.passes.faults;
       held = at.0;
       bytes = at.1;
       stands = stands_counting p e (after_reply (is_error (said_of reply)) e.counters) at.0 (stands_own p images.target e at.0 r.stands);
@@ -176,10 +215,10 @@ no_reset sizes d m f = refl
 -- it was broken off, and this error was answered
 broken_came : (g : Geometry) (to : Message) (m : Meant) (up : Up) (settings : SettingsState) (files : List StoredFile) (counters : Counters) (images : Images) (fault : UploadFault) (error : Meant → Said) (outcome : Outcome)
     (d : AbstractDevice) (u out : List ℕ) (left : Option Images) (result : Result Handled Down) (h : Handled) (a b : FlashState)
-    → ((c : Came) → BreaksOff (sizes_of g) d (Some to) error c → Comes (sizes_of g) d (Some to) outcome c) → is_error (error m) ≡ true
+    → ((c : Came) → BreaksOff (sizes_of g) d (Some to) error c → Comes (sizes_of g) d (Some to) outcome c) → (Passes (upload_fault_end fault) a b → RaisedOnce outcome a.faults b.faults) → is_error (error m) ≡ true
     → is_request to ≡ true → meaning to ≡ Ok m → result ≡ Ok h → Before up d u a → Serves g (Ok m) up (up_of images settings files up.counters) (Err fault) a b
-    → Sent to (error m) false up.counters counters images out left result → CameSo g (Some to) (places_of up.images) settings files counters left d h out b
-broken_came g to m up settings files counters images fault error outcome d u out left result h a b comes_so wrong asked means is before serves sent =
+    → Sent to (error m) false up.counters counters images out left result → CameSo g (Some to) (places_of up.images) settings files counters left d h out a b
+broken_came g to m up settings files counters images fault error outcome d u out left result h a b comes_so raises wrong asked means is before serves sent =
     let p = places_of up.images in
     let after_up = up_of images settings files up.counters in
     let at = told_at (ReachedFrom p (λ e. does (sizes_of g) e m) up after_up (Err fault)) a.bytes b.bytes u before.bytes serves.reached in
@@ -206,6 +245,7 @@ broken_came g to m up settings files counters images fault error outcome d u out
       };
       reply = reply_so false h out (reply_bytes to (error m)) named sent.written;
       resets_so = asked_resets to false asked (ap is_reset means ∙ no_reset g d m try) ∙ resets_by false h named;
+      raised = raises serves.calls.passes;
       held = at.0;
       bytes = at.1;
       stands = stands_counting p e (after_reply (is_error (error m)) e.counters) at.0 (stands_own p images.target e at.0 r.stands);
@@ -215,19 +255,19 @@ broken_came g to m up settings files counters images fault error outcome d u out
 
 request_came : (g : Geometry) (to : Message) (m : Meant) (up : Up) (settings : SettingsState) (files : List StoredFile) (counters : Counters) (images : Images) (fate : Result Reply UploadFault) (d : AbstractDevice) (u out : List ℕ) (left : Option Images)
     (result : Result Handled Down) (h : Handled) (a b : FlashState) → is_request to ≡ true → meaning to ≡ Ok m → result ≡ Ok h → Before up d u a → Serves g (Ok m) up (up_of images settings files up.counters) fate a b
-    → Finishes to m up.counters counters images fate out left result → CameSo g (Some to) (places_of up.images) settings files counters left d h out b
+    → Finishes to m up.counters counters images fate out left result → CameSo g (Some to) (places_of up.images) settings files counters left d h out a b
 request_came g to m up settings files counters images (Ok reply) d u out left result h a b asked means is before serves f = ok_came g to m up settings files counters images reply d u out left result h a b asked means is before serves f
 request_came g to m up settings files counters images (Err (faults.Fault operation)) d u out left result h a b asked means is before serves f =
-    broken_came g to m up settings files counters images (faults.Fault operation) (λ k. failed_said k operation) (failed operation) d u out left result h a b (λ c k. k) refl asked means is before serves f
+    broken_came g to m up settings files counters images (faults.Fault operation) (λ k. failed_said k operation) (failed operation) d u out left result h a b (λ c k. k) (raised_by operation a b) refl asked means is before serves f
 request_came g to m up settings files counters images (Err faults.Worn) d u out left result h a b asked means is before serves f =
-    broken_came g to m up settings files counters images faults.Worn worn_said worn d u out left result h a b (λ c k. k) refl asked means is before serves f
+    broken_came g to m up settings files counters images faults.Worn worn_said worn d u out left result h a b (λ c k. k) (raised_worn a b) refl asked means is before serves f
 request_came g to m up settings files counters images (Err faults.Off) d u out left result h a b asked means is before serves f = absurd (cc (sym f.answer ∙ is))
 request_came g to m up settings files counters images (Err faults.Unformatted) d u out left result h a b asked means is before serves f = absurd (cc (sym f.answer ∙ is))
 
 -- the packet means no request
 error_came : (g : Geometry) (to : Message) (number : ℕ) (up : Up) (settings : SettingsState) (files : List StoredFile) (counters : Counters) (d : AbstractDevice) (u out : List ℕ) (left : Option Images)
     (result : Result Handled Down) (h : Handled) (a b : FlashState) → is_request to ≡ true → meaning to ≡ Err number → result ≡ Ok h → Before up d u a
-    → AnswersError to number up settings files counters out left result a b → CameSo g (Some to) (places_of up.images) settings files counters left d h out b
+    → AnswersError to number up settings files counters out left result a b → CameSo g (Some to) (places_of up.images) settings files counters left d h out a b
 error_came g to number up settings files counters d u out left result h a b asked means is before e =
     let p = places_of up.images in
     let reply = said.smp_error number in
@@ -239,6 +279,7 @@ error_came g to number up settings files counters d u out left result h a b aske
       comes = ap (λ (x : Result Meant ℕ). record { reply = Some (reply_bytes to (response_to (sizes_of g) d x).reply); device = after (response_to (sizes_of g) d x) d }) (sym means) ∙ asked_came g to d asked;
       reply = reply_so false h out (reply_bytes to reply) named e.sent.written;
       resets_so = asked_resets to false asked (ap is_reset means) ∙ resets_by false h named;
+      raised = raised_plainly a.faults b.faults (ap (λ (s : FlashState). s.faults) e.flash);
       held = u;
       bytes = ap (λ (s : FlashState). s.bytes) e.flash ∙ before.bytes;
       stands = stands_counting p d (after_reply true d.counters) u (stands_own p up.images.target d u before.stands);
@@ -251,7 +292,7 @@ error_came g to number up settings files counters d u out left result h a b aske
 meaning_came : (g : Geometry) (to : Message) (mm : Result Meant ℕ) (images : Images) (old new : DeviceState) (d : AbstractDevice) (u out : List ℕ) (result : Result Handled Down) (h : Handled) (a b : FlashState)
     → is_request to ≡ true → meaning to ≡ mm → result ≡ Ok h → Before (up_of images old.settings old.files old.counters) d u a
     → AnswersMeaning g to mm (up_of images old.settings old.files old.counters) new.settings new.files new.counters out new.up result a b
-    → CameSo g (Some to) (places_of images) new.settings new.files new.counters new.up d h out b
+    → CameSo g (Some to) (places_of images) new.settings new.files new.counters new.up d h out a b
 meaning_came g to (Ok m) images old new d u out result h a b asked means is before answers =
     request_came g to m (up_of images old.settings old.files old.counters) new.settings new.files new.counters answers.images answers.fate d u out new.up result h a b asked means is before answers.serves answers.finishes
 meaning_came g to (Err number) images old new d u out result h a b asked means is before answers =
@@ -259,7 +300,7 @@ meaning_came g to (Err number) images old new d u out result h a b asked means i
 
 drop_came : (g : Geometry) (p : Option Message) (images : Images) (old new : DeviceState) (d : AbstractDevice) (u out : List ℕ) (result : Result Handled Down) (h : Handled) (a b : FlashState)
     → is_dropped d ≡ came_of (sizes_of g) d p → resets p ≡ false → old.up ≡ Some images → result ≡ Ok h → Before (up_of images old.settings old.files old.counters) d u a → Drops old new out result a b
-    → CameSo g p (places_of images) new.settings new.files new.counters new.up d h out b
+    → CameSo g p (places_of images) new.settings new.files new.counters new.up d h out a b
 drop_came g p images old new d u out result h a b drops calm was is before e =
     let named : handleds.Dropped ≡ h = ok_is handleds.Dropped h result e.answer is in
     let t = before.stands.images.target_is in
@@ -274,6 +315,7 @@ drop_came g p images old new d u out result h a b drops calm was is before e =
       comes = drops;
       reply = ap (λ (x : Handled). reply_of x out) (sym named);
       resets_so = calm ∙ ap is_resetting named;
+      raised = raised_plainly a.faults b.faults (ap (λ (s : FlashState). s.faults) e.flash);
       held = u;
       bytes = ap (λ (s : FlashState). s.bytes) e.flash ∙ before.bytes;
       stands = stands_counting (places_of images) d (after_drop d.counters) u (stands_own (places_of images) images.target d u before.stands);
@@ -282,7 +324,7 @@ drop_came g p images old new d u out result h a b drops calm was is before e =
 
 by_came : (g : Geometry) (asks : Bool) (m : Message) (images : Images) (old new : DeviceState) (d : AbstractDevice) (u out : List ℕ) (result : Result Handled Down) (h : Handled) (a b : FlashState)
     → is_request m ≡ asks → geometry_of old.places.first ≡ g → old.up ≡ Some images → result ≡ Ok h → Before (up_of images old.settings old.files old.counters) d u a → HandlesBy asks m images old new out result a b
-    → CameSo g (Some m) (places_of images) new.settings new.files new.counters new.up d h out b
+    → CameSo g (Some m) (places_of images) new.settings new.files new.counters new.up d h out a b
 by_came g true m images old new d u out result h a b asked sizes was is before handles =
     meaning_came g m (meaning m) images old new d u out result h a b asked refl is before
     (subst (λ (x : Geometry). AnswersMeaning x m (meaning m) (up_of images old.settings old.files old.counters) new.settings new.files new.counters out new.up result a b) sizes handles)
@@ -292,7 +334,7 @@ by_came g false m images old new d u out result h a b asked sizes was is before 
 
 packet_came : (g : Geometry) (p : Option Message) (images : Images) (old new : DeviceState) (d : AbstractDevice) (u out : List ℕ) (result : Result Handled Down) (h : Handled) (a b : FlashState)
     → geometry_of old.places.first ≡ g → old.up ≡ Some images → result ≡ Ok h → Before (up_of images old.settings old.files old.counters) d u a → HandlesPacket p images old new out result a b
-    → CameSo g p (places_of images) new.settings new.files new.counters new.up d h out b
+    → CameSo g p (places_of images) new.settings new.files new.counters new.up d h out a b
 packet_came g None images old new d u out result h a b sizes was is before handles = drop_came g None images old new d u out result h a b refl refl was is before handles
 packet_came g (Some m) images old new d u out result h a b sizes was is before handles = by_came g (is_request m) m images old new d u out result h a b refl sizes was is before handles
 
@@ -313,14 +355,14 @@ before_of images old d u a was whole bytes s =
 
 up_came : (packet_bytes : List ℕ) (held : Option Images) (old new : DeviceState) (d : AbstractDevice) (u out : List ℕ) (result : Result Handled Down) (h : Handled) (a b : FlashState)
     → old.up ≡ held → IsWhole old.places old.up old.settings → result ≡ Ok h → a.bytes ≡ Some u → DeviceStands old d u → HandlesUp held packet_bytes old new out result a b
-    → CameSo (geometry_of old.places.first) (packet packet_bytes) old.places new.settings new.files new.counters new.up d h out b
+    → CameSo (geometry_of old.places.first) (packet packet_bytes) old.places new.settings new.files new.counters new.up d h out a b
 up_came packet_bytes None old new d u out result h a b was whole is bytes s handles = absurd handles
 up_came packet_bytes (Some images) old new d u out result h a b was whole is bytes s handles =
     let k = before_of images old d u a was whole bytes s in
-    subst (λ (p : Places). CameSo (geometry_of old.places.first) (packet packet_bytes) p new.settings new.files new.counters new.up d h out b) k.0
+    subst (λ (p : Places). CameSo (geometry_of old.places.first) (packet packet_bytes) p new.settings new.files new.counters new.up d h out a b) k.0
     (packet_came (geometry_of old.places.first) (packet packet_bytes) images old new d u out result h a b refl was is k.1 handles)
 
 pub packet_comes : (packet_bytes : List ℕ) (old new : DeviceState) (d : AbstractDevice) (u out : List ℕ) (h : Handled) (a b : FlashState)
     → IsWhole old.places old.up old.settings → a.bytes ≡ Some u → DeviceStands old d u → Handles packet_bytes old new out (Ok h) a b
-    → CameSo (geometry_of old.places.first) (packet packet_bytes) old.places new.settings new.files new.counters new.up d h out b
+    → CameSo (geometry_of old.places.first) (packet packet_bytes) old.places new.settings new.files new.counters new.up d h out a b
 packet_comes packet_bytes old new d u out h a b whole bytes s handles = up_came packet_bytes old.up old new d u out (Ok h) h a b refl whole refl bytes s handles

@@ -1,8 +1,10 @@
 -- Sessions, and the device that the flash and the value stand for.
-use Rattle.std.proofs.Common.{◌≡◌, ◌++◌, ℕ, Bool, true, false, List, [], ◌∷◌, Option, Some, None, Ok, Err, refl, sym, ◌∙◌, ap, subst}
+use Rattle.std.proofs.Common.{◌≡◌, ◌++◌, ℕ, Bool, true, false, List, [], ◌∷◌, Option, Some, None, Ok, Err, refl, sym, ◌∙◌, ap, subst, arith, ◌+◌}
 use Rattle.std.specs.Prelude.{IfSome}
 use Rattle.smp_flash.specs.Layout.{geometry_of}
-use Rattle.smp_flash.specs.State.{FlashState}
+use Rattle.smp_flash.specs.State.{Faults, FlashState}
+use Rattle.smp_flash.specs.declared.flash.Operation.{Operation}
+use Rattle.smp_flash.specs.declared.flash.Operation.TheVariants.{Read, Write, Erase}
 use Rattle.smp_flash.specs.declared.layout.Layout.{Layout}
 use Rattle.smp_header.specs.Message.{packet}
 use Rattle.smp_model.specs.declared.device.AbstractDevice.{AbstractDevice}
@@ -21,10 +23,10 @@ use Rattle.smp_device.specs.declared.answering.Down.TheVariants as downs
 use Rattle.smp_device.specs.declared.answering.Handled.{Handled}
 use Rattle.smp_device.specs.declared.answering.Handled.TheVariants as handleds
 use Rattle.smp_device.specs.declared.images.Images.{Images}
-use Rattle.smp_serve.specs.Devices.{Came, Comes, FallenDevice, IsServed, IsStopped, Outcome, ServesDevice, StopsDevice, UnsentDevice, UnstartedDevice, given_none, given_one, resets, sizes_at, started_if}
+use Rattle.smp_serve.specs.Devices.{Came, Comes, FallenDevice, IsServed, IsStopped, Outcome, ServesDevice, StopsDevice, UnsentDevice, UnstartedDevice, given_none, given_one, resets, sizes_at, started_if, Raised, RoseBy, count_of, failures}
 use Rattle.smp_serve.specs.Sessions.{Exchange, HandlesAt, Passes, Point, Serves, StartsAfter, Stop, Stops, StopsFallen, StopsUnsent, StopsUnstarted, fell, no_packet, one_packet, reply_of, unsent, unstarted}
 use Rattle.smp_serve.proofs.DeviceDowns.{packet_falls}
-use Rattle.smp_serve.proofs.DevicePackets.{CameSo, packet_comes, stands_own, told_at}
+use Rattle.smp_serve.proofs.DevicePackets.{CameSo, packet_comes, stands_own, told_at, RaisedOnce}
 
 -- A start.
 
@@ -64,11 +66,11 @@ start_comes old new d u a b places bytes s r =
 -- A packet.
 
 at_comes : (bytes out : List ℕ) (h : Handled) (a b : Point) (d : AbstractDevice) (u : List ℕ) → IsWhole a.device.places a.device.up a.device.settings → a.flash.bytes ≡ Some u → DeviceStands a.device d u
-    → HandlesAt bytes out (Ok h) a b → CameSo (geometry_of a.device.places.first) (packet bytes) a.device.places b.device.settings b.device.files b.device.counters b.device.up d h out b.flash
+    → HandlesAt bytes out (Ok h) a b → CameSo (geometry_of a.device.places.first) (packet bytes) a.device.places b.device.settings b.device.files b.device.counters b.device.up d h out a.flash b.flash
 at_comes bytes out h a b d u whole told s at = packet_comes bytes a.device b.device d u out h a.flash b.flash whole told s at.handles
 
 came_stands : (bytes out : List ℕ) (h : Handled) (a b : Point) (d : AbstractDevice) → b.device.places ≡ a.device.places
-    → (c : CameSo (geometry_of a.device.places.first) (packet bytes) a.device.places b.device.settings b.device.files b.device.counters b.device.up d h out b.flash)
+    → (c : CameSo (geometry_of a.device.places.first) (packet bytes) a.device.places b.device.settings b.device.files b.device.counters b.device.up d h out a.flash b.flash)
     → DeviceStands b.device c.came.device c.held
 came_stands bytes out h a b d places c = record {
   stands = subst (λ (p : Places). Stands p c.came.device.target c.came.device c.held) (sym places) c.stands;
@@ -84,6 +86,7 @@ record PassesDevice (x : Exchange) (a b : Point) (d : AbstractDevice) : Type 0 w
   last : AbstractDevice
   last_is : last ≡ started_if (resets (packet x.packet)) came.device
   then : StandsThen b.device last b.flash
+  raised : RaisedOnce outcome a.flash.faults b.flash.faults
   whole : IsWhole b.device.places b.device.up b.device.settings
   sizes : sizes_at b ≡ sizes_at a
 
@@ -111,6 +114,7 @@ passes_on x handleds.ReplyThenReset out a m b d u whole told s at reply starts =
       last = start c.came.device;
       last_is = starts_so (resets (packet x.packet)) c.came.device c.resets_so;
       then = start_comes m.device b.device c.came.device c.held m.flash b.flash starts.places c.bytes st.stands starts.restarts;
+      raised = subst (λ (f : Faults). RaisedOnce c.outcome a.flash.faults f) (sym starts.restarts.starts.calls.passes.faults) c.raised;
       whole = starts.whole;
       sizes = sizes_kept m b starts.places ∙ sizes_kept a m at.places;
     }
@@ -125,6 +129,7 @@ passes_on x handleds.Reply out a m b d u whole told s at reply same =
       last = c.came.device;
       last_is = stays_so (resets (packet x.packet)) c.came.device c.resets_so;
       then = record { held = c.held; bytes = c.bytes; stands = st };
+      raised = c.raised;
       whole = at.whole;
       sizes = sizes_kept a m at.places;
     }
@@ -139,11 +144,35 @@ passes_on x handleds.Dropped out a m b d u whole told s at reply same =
       last = c.came.device;
       last_is = stays_so (resets (packet x.packet)) c.came.device c.resets_so;
       then = record { held = c.held; bytes = c.bytes; stands = st };
+      raised = c.raised;
       whole = at.whole;
       sizes = sizes_kept a m at.places;
     }
 
 -- Packets in a row.
+
+failures_more : (operation : Operation) (outcomes : List Outcome) (outcome : Outcome) → failures operation (outcomes ++ outcome ∷ []) ≡ failures operation outcomes + count_of operation outcome
+failures_more operation [] outcome = omega arith
+failures_more operation (o ∷ os) outcome = let more = failures_more operation os outcome in omega arith
+
+rose_more : (n m k x y z : ℕ) → k ≡ n + m → RoseBy n x y → RoseBy m y z → RoseBy k x z
+rose_more n m k x y z sum one two =
+    let a = one.kept in let b = one.most in let c = two.kept in let d = two.most in
+    record { kept = omega arith; most = omega arith; none = λ e. two.none (omega arith) ∙ one.none (omega arith) }
+
+raised_more : (outcomes : List Outcome) (outcome : Outcome) (a b c : Faults) → Raised outcomes a b → RaisedOnce outcome b c → Raised (outcomes ++ outcome ∷ []) a c
+raised_more outcomes outcome a b c h k = record {
+  reads = rose_more (failures Read outcomes) (count_of Read outcome) _ a.reads b.reads c.reads (failures_more Read outcomes outcome) h.reads k.reads;
+  writes = rose_more (failures Write outcomes) (count_of Write outcome) _ a.writes b.writes c.writes (failures_more Write outcomes outcome) h.writes k.writes;
+  erases = rose_more (failures Erase outcomes) (count_of Erase outcome) _ a.erases b.erases c.erases (failures_more Erase outcomes outcome) h.erases k.erases;
+}
+
+none_raised : (a : Faults) → Raised [] a a
+none_raised a = record {
+  reads = record { kept = omega arith; most = omega arith; none = λ _. refl };
+  writes = record { kept = omega arith; most = omega arith; none = λ _. refl };
+  erases = record { kept = omega arith; most = omega arith; none = λ _. refl };
+}
 
 record ServesSo (a b : Point) (xs : List Exchange) (d : AbstractDevice) : Type 0 where
   serves : ServesDevice a b xs d
@@ -159,6 +188,7 @@ one_more a b c earlier xs x d s p is =
         last = n.last;
         serves = given_one (sizes_at a) d s.serves.last n.last earlier xs s.serves.outcomes _ x n.outcome n.came s.serves.serves
             (subst (λ (z : Sizes). Comes z s.serves.last (packet x.packet) n.outcome n.came) s.sizes n.comes) n.reply n.last_is is refl;
+        raised = raised_more s.serves.outcomes n.outcome a.flash.faults b.flash.faults c.flash.faults s.serves.raised n.raised;
         held = n.then.held;
         bytes = n.then.bytes;
         stands = n.then.stands;
@@ -170,7 +200,7 @@ one_more a b c earlier xs x d s p is =
 serves_so : (a b : Point) (xs : List Exchange) (d : AbstractDevice) (u : List ℕ) → Serves a xs b → IsWhole a.device.places a.device.up a.device.settings → a.flash.bytes ≡ Some u → DeviceStands a.device d u → ServesSo a b xs d
 serves_so a b xs d u (no_packet a' b' xs' none same) whole told s =
     subst (λ (p : Point). ServesSo a' p xs' d) (sym same) record {
-      serves = record { outcomes = []; last = d; serves = given_none (sizes_at a') d d xs' [] none refl refl; held = u; bytes = told; stands = s };
+      serves = record { outcomes = []; last = d; serves = given_none (sizes_at a') d d xs' [] none refl refl; raised = none_raised a'.flash.faults; held = u; bytes = told; stands = s };
       whole = whole;
       sizes = refl;
     }

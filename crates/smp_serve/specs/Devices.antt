@@ -1,7 +1,9 @@
 -- What the device is through a session: what it answers to each packet, and what it is then.
-use Rattle.std.specs.Prelude.{◌≡◌, ◌++◌, ◌||◌, ℕ, Bool, true, false, if◌then◌else◌, List, [], ◌∷◌, Option, Some, None, IsTrue, Ok, Err}
+use Rattle.std.specs.Prelude.{◌≡◌, min, ◌^◌, ◌-◌, ◌+◌, ◌≤◌, ◌++◌, ◌||◌, ℕ, Bool, true, false, if◌then◌else◌, List, [], ◌∷◌, Option, Some, None, IsTrue, Ok, Err}
 use Rattle.smp_flash.specs.Layout.{geometry_of}
+use Rattle.smp_flash.specs.State.{Faults}
 use Rattle.smp_flash.specs.declared.flash.Operation.{Operation}
+use Rattle.smp_flash.specs.declared.flash.Operation.TheVariants.{Read, Write, Erase}
 use Rattle.smp_header.specs.Message.{Message, packet}
 use Rattle.smp_model.specs.declared.device.AbstractDevice.{AbstractDevice}
 use Rattle.smp_model.specs.declared.device.Sizes.{Sizes}
@@ -53,6 +55,29 @@ pub data Outcome : Type 0 where
   failed : Operation → Outcome
   worn : Outcome
 
+-- how often this operation failed
+abbrev pub count_of : Operation → Outcome → ℕ
+count_of Read (failed Read) = 1
+count_of Write (failed Write) = 1
+count_of Erase (failed Erase) = 1
+count_of operation outcome = 0
+
+abbrev pub failures : Operation → List Outcome → ℕ
+failures operation [] = 0
+failures operation (outcome ∷ outcomes) = count_of operation outcome + failures operation outcomes
+
+-- A number of failures rose by so many at least, unless it stands at its end, and only where there were some.
+pub record RoseBy (n before now : ℕ) : Type 0 where
+  pub kept : before ≤ now
+  pub most : min (before + n) (2 ^ 64 - 1) ≤ now
+  pub none : n ≡ 0 → now ≡ before
+
+-- The numbers of the flash's failures rose by those that were answered.
+pub record Raised (outcomes : List Outcome) (a b : Faults) : Type 0 where
+  pub reads : RoseBy (failures Read outcomes) a.reads b.reads
+  pub writes : RoseBy (failures Write outcomes) a.writes b.writes
+  pub erases : RoseBy (failures Erase outcomes) a.erases b.erases
+
 -- A request was broken off: some first ones of its steps were done, and the error was answered in the group of the request.
 pub record BreaksOff (sizes : Sizes) (d : AbstractDevice) (p : Option Message) (error : Meant → Said) (c : Came) : Type 0 where
   pub message : Message
@@ -93,6 +118,7 @@ pub record ServesDevice (a b : Point) (xs : List Exchange) (d : AbstractDevice) 
   pub outcomes : List Outcome
   pub last : AbstractDevice
   pub serves : DeviceServes (sizes_at a) d xs outcomes last
+  pub raised : Raised outcomes a.flash.faults b.flash.faults
   pub held : List ℕ
   pub bytes : b.flash.bytes ≡ Some held
   pub stands : DeviceStands b.device last held

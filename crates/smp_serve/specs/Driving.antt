@@ -12,6 +12,7 @@ use Rattle.smp_header.specs.Message.{Message}
 use Rattle.smp_model.specs.Packets.{packet_bytes}
 use Rattle.smp_jobs.specs.Clients.{Client, Turn, client_hears_bytes, client_waited}
 use Rattle.smp_jobs.specs.Jobs.{done}
+use Rattle.smp_jobs.specs.Results.{result}
 use Rattle.smp_jobs.specs.States.{JobState, HearsWant, Stands, Turns, printed_in, told_as, told_by}
 use Rattle.smp_jobs.specs.declared.moves.JobEnd.{JobEnd}
 use Rattle.smp_jobs.specs.declared.moves.JobEnd.TheVariants as job_ends
@@ -75,6 +76,7 @@ pub record DroveToDone (c : Client) (peer : Peer) (job : JobState) (a b : LinkSt
   pub now : Client
   pub drove : Drove c peer job now a b
   pub done : now.ended ≡ Some done
+  pub text : printed_in job ≡ result now.job now.answers
 
 -- It was driven up to here, and goes on; the next hearing failed.
 pub record HearingFailed (c : Client) (peer : Peer) (job : JobState) (a b : LinkState) : Type 0 where
