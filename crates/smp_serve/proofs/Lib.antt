@@ -11,3 +11,4 @@ pub mod DeviceSessions
 pub mod SessionEnds
 pub mod Causes
 pub mod Pendings
+pub mod Opened

@@ -1,5 +1,6 @@
 // Whole sessions over objects in memory. The texts and packets were worked out by hand from the formats.
-ghost use Rattle.std.specs.Prelude.{◌≡◌, length, IfOk, IfSome, IsSome, IsTrue};
+ghost use Rattle.std.specs.Prelude.{◌≡◌, ◌≤◌, length, IfOk, IfSome, IsSome, IsTrue};
+ghost use Rattle.smp_serve.specs.Driving.{IsRunning};
 ghost use Rattle.smp_flash.specs.Area.{blank};
 ghost use Rattle.smp_flash.specs.Geometry.{is_lawful, size_of};
 ghost use Rattle.smp_flash.specs.Layout.{geometry_of};
@@ -10,7 +11,7 @@ use crate::{ClientFault, ServeFault, Served, drive_client, serve_console, serve_
 use smp_device::{Device, OpenFault, format};
 use smp_edge::{Calls, MemLink, MemSink, MemSource, Octets, Peer, Scripted};
 use smp_flash::{Arm, ArmKind, Geometry, Left, MemFlash, Region};
-use smp_jobs::{Job, JobEnd};
+use smp_jobs::{Job, JobEnd, JobFault};
 use std::alloc::{AllocError, Global};
 use std::process::Abort;
 use std::test::Fail;
@@ -66,22 +67,24 @@ const OTHER: Peer = Peer {
     port: 7,
 };
 
-/// A flash that is all FF.
-fn erased(alloc: Global) -> Result<MemFlash, AllocError>
-    ensures sizes { IfOk result (λ flash. (mem_state flash).geometry.images ≡ 1) }
+/// A flash of these sizes that is all FF.
+fn erased(alloc: Global, geometry: Geometry) -> Result<MemFlash, AllocError>
+    requires { IsTrue (is_lawful geometry) }
+    ensures sizes { IfOk result (λ flash. (mem_state flash).geometry ≡ geometry) }
     ensures erased { IfOk result (λ flash. IfSome (mem_state flash).bytes (λ held. held ≡ blank (size_of (mem_state flash).geometry))) }
 {
-    MemFlash::new(alloc, SIZES)
+    MemFlash::new(alloc, geometry)
 }
 
 /// A flash that was formatted with the image.
 fn formatted(alloc: Global) -> Result<MemFlash, AllocError> {
-    let mut flash = erased(alloc)?;
+    let mut flash = erased(alloc, SIZES)?;
     let _ = format(&mut flash, &IMAGE);
     Ok(flash)
 }
 
 /// Opens a device.
+#[tactic(auto, using(crate::proofs::Opened::opened_up, crate::proofs::Opened::opened_sizes))]
 fn opened(alloc: Global, flash: &mut MemFlash) -> Result<Device, OpenFault>
     ensures up { IfOk result (λ device. IsSome device.up) }
     ensures sizes { IfOk result (λ device. geometry_of device.places.first ≡ (mem_state flash.new).geometry) }
@@ -221,15 +224,49 @@ fn tells_why_a_start_after_a_reset_failed(rt: HostRuntime) -> Result<(), Fail> {
     Ok(())
 }
 
-/// Serves what these packets ask over a link, each from its peer and then a quiet wait, where these calls fail.
+/// What is heard, and what is sent.
+#[derive(Clone, Copy)]
+enum Mail {
+    Echo,
+    Echoed,
+    Reset,
+    ResetDone,
+    Answer,
+    Refusal,
+    Empty,
+    Long,
+}
+
+/// A reply to the client's echo: not supported.
+const REFUSED: [u8; 14] = [
+    0x0b, 0, 0, 6, 0, 0, 0, 0, 0xbf, 0x62, 0x72, 0x63, 0x08, 0xff,
+];
+
+/// One byte more than a packet may have.
+static LONG: [u8; 2049] = [0; 2049];
+
+fn bytes_of(mail: Mail) -> &'static [u8] {
+    match mail {
+        Mail::Echo => &ECHO,
+        Mail::Echoed => &ECHOED,
+        Mail::Reset => &RESET,
+        Mail::ResetDone => &RESET_DONE,
+        Mail::Answer => &ANSWERED,
+        Mail::Refusal => &REFUSED,
+        Mail::Empty => &[],
+        Mail::Long => &LONG,
+    }
+}
+
+/// Serves what these datagrams ask over a link, behind each of which there is a quiet wait, where these calls fail.
 fn serves_packets(
     rt: &impl Abort,
     alloc: Global,
-    packets: &[(Peer, &[u8])],
+    asked: &[(Peer, Mail)],
     fails: &[u32],
     turns: u32,
     outcome: Result<Served, ServeFault>,
-    replies: &[(Peer, &[u8])],
+    replies: &[(Peer, Mail)],
 ) -> Result<(), AllocError> {
     let mut flash = formatted(alloc)?;
     let Ok(mut device) = opened(alloc, &mut flash) else {
@@ -237,8 +274,8 @@ fn serves_packets(
         return Ok(());
     };
     let mut link = MemLink::new(alloc, ONE, Calls::from_slice(alloc, fails)?);
-    for (from, packet) in packets {
-        let held = Octets::from_slice(alloc, packet)?;
+    for (from, mail) in asked {
+        let held = Octets::from_slice(alloc, bytes_of(*mail))?;
         link.push(Scripted::Packet { from: *from, held })?;
         link.push(Scripted::Quiet)?;
     }
@@ -247,9 +284,9 @@ fn serves_packets(
         outcome
     );
     assert_eq!(rt; link.sent().len(), replies.len());
-    for (sent, reply) in link.sent().iter().zip(replies) {
-        assert_eq!(rt; sent.to, reply.0);
-        assert_eq!(rt; sent.held.as_slice(), reply.1);
+    for (sent, (to, mail)) in link.sent().iter().zip(replies) {
+        assert_eq!(rt; sent.to, *to);
+        assert_eq!(rt; sent.held.as_slice(), bytes_of(*mail));
     }
     Ok(())
 }
@@ -257,64 +294,68 @@ fn serves_packets(
 #[test]
 fn replies_to_the_peer_that_asked(rt: HostRuntime) -> Result<(), Fail> {
     let alloc = rt.alloc();
-    let long = vec![in alloc; 0u8; 2049]?;
     let asked = [
-        (ONE, ECHO.as_slice()),
-        (OTHER, long.as_slice()),
-        (OTHER, RESET.as_slice()),
-        (OTHER, ECHO.as_slice()),
+        (ONE, Mail::Echo),
+        (OTHER, Mail::Long),
+        (OTHER, Mail::Reset),
+        (OTHER, Mail::Echo),
     ];
     let replied = [
-        (ONE, ECHOED.as_slice()),
-        (OTHER, RESET_DONE.as_slice()),
-        (OTHER, ECHOED.as_slice()),
+        (ONE, Mail::Echoed),
+        (OTHER, Mail::ResetDone),
+        (OTHER, Mail::Echoed),
     ];
-    let served = |answered, dropped| Ok(Served { answered, dropped });
-    serves_packets(&rt, alloc, &asked, &[], 0, served(0, 0), &[])?;
-    serves_packets(&rt, alloc, &asked, &[], 3, served(1, 1), &replied[..1])?;
-    serves_packets(&rt, alloc, &asked, &[], 20, served(3, 1), &replied)?;
-    // The calls: a hearing, a sending, and then hearings but for the sendings 7 and 10.
-    serves_packets(
-        &rt,
-        alloc,
-        &asked,
-        &[3],
-        20,
-        Err(ServeFault::Link),
-        &replied[..1],
-    )?;
-    serves_packets(
-        &rt,
-        alloc,
-        &asked,
-        &[7],
-        20,
-        Err(ServeFault::Link),
-        &replied[..1],
-    )?;
+    for (turns, answered, dropped) in [(0, 0, 0), (3, 1, 1), (20, 3, 1)] {
+        let served = Ok(Served { answered, dropped });
+        let sent = answered as usize;
+        serves_packets(
+            &rt,
+            alloc,
+            &asked,
+            &[],
+            turns,
+            served,
+            &replied[..sent.min(3)],
+        )?;
+    }
+    // The calls are a hearing, a sending, and then hearings but for the sendings 7 and 10.
+    for call in [3, 7] {
+        let failed = Err(ServeFault::Link);
+        serves_packets(&rt, alloc, &asked, &[call], 20, failed, &replied[..1])?;
+    }
     Ok(())
 }
 
-/// Drives an echo of `hi` over a link that hears these packets, where these calls and puts fail.
+/// A job that has a text echoed.
+fn echo_job(alloc: Global, text: &str) -> Result<Job, JobFault>
+    requires some { 1 ≤ length text.now }
+    requires most { length text.now ≤ 1024 }
+    ensures { IfOk result IsRunning }
+{
+    Job::echo(alloc, text)
+}
+
+/// Drives an echo of `hi` over a link that hears these packets, where this call of the link, or this put, fails.
 fn drives_echo(
     rt: &impl Abort,
     alloc: Global,
-    heard: &[&[u8]],
-    fails: (&[u32], &[u32]),
+    heard: &[Mail],
+    call: u32,
+    put: u32,
     outcome: Result<(), ClientFault>,
     sent: usize,
     text: &[u8],
 ) -> Result<(), AllocError> {
-    let Ok(mut job) = Job::echo(alloc, "hi") else {
+    let Ok(mut job) = echo_job(alloc, "hi") else {
         assert!(rt; false);
         return Ok(());
     };
-    let mut link = MemLink::new(alloc, ONE, Calls::from_slice(alloc, fails.0)?);
-    for packet in heard {
-        let held = Octets::from_slice(alloc, packet)?;
+    let mut link = MemLink::new(alloc, ONE, Calls::from_slice(alloc, &[call])?);
+    for mail in heard {
+        let held = Octets::from_slice(alloc, bytes_of(*mail))?;
         link.push(Scripted::Packet { from: OTHER, held })?;
     }
-    let mut sink = MemSink::new(alloc, Calls::from_slice(alloc, fails.1)?);
+    let mut sink = MemSink::new(alloc, Calls::from_slice(alloc, &[put])?);
     assert_eq!(rt;
         drive_client(&mut job, &mut link, OTHER, &mut sink),
         outcome
@@ -331,58 +372,20 @@ fn drives_echo(
 #[test]
 fn drives_a_client(rt: HostRuntime) -> Result<(), Fail> {
     let alloc = rt.alloc();
-    let long = vec![in alloc; 0u8; 2049]?;
-    let answer = ANSWERED.as_slice();
-    drives_echo(
-        &rt,
-        alloc,
-        &[long.as_slice(), b"", answer],
-        (&[], &[]),
-        Ok(()),
-        1,
-        b"hi\n",
-    )?;
-    let refused = [0x0b, 0, 0, 5, 0, 0, 0, 0, 0xa1, 0x62, 0x72, 0x63, 0x08];
-    let end = |end| Err(ClientFault::End(end));
-    drives_echo(
-        &rt,
-        alloc,
-        &[refused.as_slice()],
-        (&[], &[]),
-        end(JobEnd::Refused {
-            group: None,
-            number: 8,
-        }),
-        1,
-        b"",
-    )?;
-    drives_echo(&rt, alloc, &[], (&[], &[]), end(JobEnd::NoAnswer), 9, b"")?;
-    drives_echo(
-        &rt,
-        alloc,
-        &[answer],
-        (&[1], &[]),
-        Err(ClientFault::Link),
-        0,
-        b"",
-    )?;
-    drives_echo(
-        &rt,
-        alloc,
-        &[answer],
-        (&[2], &[]),
-        Err(ClientFault::Link),
-        1,
-        b"",
-    )?;
-    drives_echo(
-        &rt,
-        alloc,
-        &[answer],
-        (&[], &[1]),
-        Err(ClientFault::Write),
-        1,
-        b"",
-    )?;
+    let strangers = [Mail::Long, Mail::Empty, Mail::Answer];
+    drives_echo(&rt, alloc, &strangers, 0, 0, Ok(()), 1, b"hi\n")?;
+    let refused = JobEnd::Refused {
+        group: None,
+        number: 8,
+    };
+    let ended = Err(ClientFault::End(refused));
+    drives_echo(&rt, alloc, &[Mail::Refusal], 0, 0, ended, 1, b"")?;
+    let unanswered = Err(ClientFault::End(JobEnd::NoAnswer));
+    drives_echo(&rt, alloc, &[], 0, 0, unanswered, 9, b"")?;
+    let cut_off = Err(ClientFault::Link);
+    drives_echo(&rt, alloc, &[Mail::Answer], 1, 0, cut_off, 0, b"")?;
+    drives_echo(&rt, alloc, &[Mail::Answer], 2, 0, cut_off, 1, b"")?;
+    let unwritten = Err(ClientFault::Write);
+    drives_echo(&rt, alloc, &[Mail::Answer], 0, 1, unwritten, 1, b"")?;
     Ok(())
 }
