@@ -1,5 +1,5 @@
 -- Why sessions end, as far as the flash goes.
-use Rattle.std.proofs.Common.{◌≡◌, ◌≤◌, ◌⊎◌, ◌+◌, ℕ, inl, inr, List, Option, Result, Ok, Err, sym, subst, ap, arith}
+use Rattle.std.proofs.Common.{◌≤◌, ℕ, inl, inr, List, Option, Result, Ok, Err, sym, subst, ap, arith}
 use Rattle.smp_flash.specs.Calls.{Rises, Rose}
 use Rattle.smp_flash.specs.State.{Faults, FlashState}
 use Rattle.smp_flash.specs.declared.flash.Operation.{Operation}
@@ -13,7 +13,7 @@ use Rattle.smp_device.specs.declared.answering.Handled.TheVariants as handleds
 use Rattle.smp_serve.specs.Consoles.{ConsoleEnds, ConsoleStops}
 use Rattle.smp_serve.specs.Hearing.{LinkState}
 use Rattle.smp_serve.specs.Links.{LinkEnds}
-use Rattle.smp_serve.specs.Sessions.{Exchange, FlashCaused, HandlesAt, NoFewer, Passes, Point, RoseAt, Serves, StartsAfter, StartsAt, Stop, Stops, StopsUnstarted, fell, no_packet, one_packet, stop_fault, unsent, unstarted}
+use Rattle.smp_serve.specs.Sessions.{Exchange, FlashCaused, HandlesAt, NoFewer, Passes, Point, RoseAt, Serves, StartsAfter, Stop, Stops, StopsUnstarted, fell, no_packet, one_packet, stop_fault, unsent, unstarted}
 use Rattle.smp_serve.specs.declared.fault.ServeFault.{ServeFault}
 use Rattle.smp_serve.specs.declared.fault.ServeFault.TheVariants as faults
 use Rattle.smp_serve.specs.declared.link_serving.Served.{Served}

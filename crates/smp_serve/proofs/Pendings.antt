@@ -1,5 +1,5 @@
 -- What is pending stays through a session.
-use Rattle.std.proofs.Common.{◌≡◌, ◌⊎◌, ℕ, Bool, true, false, inl, inr, List, Option, Some, None, Result, Ok, Err, refl, ap, sym, ◌∙◌, subst}
+use Rattle.std.proofs.Common.{◌≡◌, ℕ, Bool, true, false, inl, inr, List, Option, Some, None, Result, Ok, Err, refl, sym, ◌∙◌, subst}
 use Rattle.std.specs.Prelude.{IfSome}
 use Rattle.smp_flash.specs.Area.{Told}
 use Rattle.smp_flash.specs.Layout.{geometry_of}
@@ -14,7 +14,7 @@ use Rattle.smp_model.specs.Meant.{Meant}
 use Rattle.smp_upload.specs.Moves.{KeepsPending}
 use Rattle.smp_upload.specs.declared.states.UploadFault.{UploadFault}
 use Rattle.smp_upload.proofs.Composing.{keeps_trans}
-use Rattle.smp_device.specs.Handling.{AnswersMeaning, DeviceState, Handles, HandlesBy, HandlesPacket, HandlesUp}
+use Rattle.smp_device.specs.Handling.{AnswersMeaning, DeviceState, HandlesBy, HandlesPacket, HandlesUp}
 use Rattle.smp_device.specs.Places.{AtEach, Places, places_of}
 use Rattle.smp_device.specs.Starting.{Restarts}
 use Rattle.smp_device.specs.Up.{IsWhole, Up, up_of}
@@ -25,7 +25,7 @@ use Rattle.smp_device.specs.declared.images.Images.{Images}
 use Rattle.smp_serve.specs.Consoles.{ConsoleEnds, ConsoleStops}
 use Rattle.smp_serve.specs.Hearing.{LinkState}
 use Rattle.smp_serve.specs.Links.{LinkEnds}
-use Rattle.smp_serve.specs.Sessions.{Exchange, HandlesAt, Passes, PendingStays, Point, Serves, StartsAfter, StartsAt, Stop, Stops, fell, no_packet, one_packet, unsent, unstarted}
+use Rattle.smp_serve.specs.Sessions.{Exchange, HandlesAt, PendingStays, Point, Serves, StartsAfter, StartsAt, Stop, Stops, fell, no_packet, one_packet, unsent, unstarted}
 use Rattle.smp_serve.specs.declared.fault.ServeFault.{ServeFault}
 use Rattle.smp_serve.specs.declared.fault.ServeFault.TheVariants as faults
 use Rattle.smp_serve.specs.declared.link_serving.Served.{Served}
