@@ -1,0 +1,14 @@
+pub mod Heard
+pub mod ClientTurns
+pub mod ClientDrives
+pub mod Handlings
+pub mod Packets
+pub mod LinkTurns
+pub mod ConsoleTurns
+pub mod DevicePackets
+pub mod DeviceDowns
+pub mod DeviceSessions
+pub mod SessionEnds
+pub mod Causes
+pub mod Pendings
+pub mod Opened
