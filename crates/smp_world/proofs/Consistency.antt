@@ -22,7 +22,8 @@ use Rattle.smp_world.specs.Comings.{Came, Comes, BootsAfter, booted_if, after_co
 use Rattle.smp_device.specs.Goings as goings
 use Rattle.smp_device.specs.Goings.{Armed, Went, Goes, counted_if, after_going, Booted, BootEnd, Boots, booted_by, after_boot}
 use Rattle.smp_world.specs.Laws.{CanFormat}
-use Rattle.smp_world.specs.Runs.{Event, State, Moment, Run as IsRun, state_at_end, formatted_side, first_state}
+use Rattle.smp_world.specs.Runs.{Event, State, Moment, Run as IsRun, state_at_end, first_state}
+use Rattle.smp_device.specs.Formatting.{formatted_side}
 use Rattle.smp_world.proofs.Deeds.{Holds, each_deed}
 use Rattle.smp_world.proofs.Durably.{boot_after_reset, side_alike, with_counters}
 use Rattle.smp_world.proofs.Pending.{Keeps, part_of_request, part_of_boot, nothing_of_error}

@@ -4,7 +4,8 @@ use Rattle.smp_model.specs.declared.device.Sizes.{Sizes}
 use Rattle.smp_model.specs.Acknowledged.{CoversOn}
 use Rattle.smp_model.specs.Laws.{EachSide, PendingIsGood}
 use Rattle.smp_model.specs.Steps.{start}
-use Rattle.smp_world.specs.Runs.{formatted, first_state}
+use Rattle.smp_device.specs.Formatting.{formatted}
+use Rattle.smp_world.specs.Runs.{first_state}
 
 pub has_started : (sizes : Sizes) (image : List ℕ) (second : Option (List ℕ)) → start (formatted sizes image second) ≡ formatted sizes image second
 has_started sizes image None = refl

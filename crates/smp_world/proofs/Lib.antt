@@ -11,7 +11,6 @@ mod Arming
 mod Unreached
 mod Possible
 mod UnarmedRuns
-mod MemoryTells
 mod Calm
 mod DeviceMoments
 mod HandledPackets
@@ -64,3 +63,13 @@ mod ToldReplays
 mod UnstruckMoments
 mod RunFronts
 mod StruckExamples
+mod Standing
+mod Taking
+mod Opening
+mod Seats
+mod Pairing
+mod SeatLists
+mod PutLines
+mod WorldOpens
+mod WorldSteps
+mod MailSteps

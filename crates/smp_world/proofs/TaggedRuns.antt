@@ -23,7 +23,8 @@ use Rattle.smp_world.specs.Comings.{Came, Comes, after_coming}
 use Rattle.smp_jobs.specs.Jobs.{UploadJob, Job, uploads, lists, sets, puts, gets, echoes, End}
 use Rattle.smp_world.specs.Lines as lines
 use Rattle.smp_world.specs.Lines.{Line, Did}
-use Rattle.smp_world.specs.Runs.{Event, begins, raw, up, down, quiet, arms, boot, Mail, State, Moment, nth, with_nth, number_of, Happens, Run as IsRun, UpComes, UpNamed, turned, unless_ended, moves, comes_down, client_begins, with_packet, state_at_end, formatted_side, first_state}
+use Rattle.smp_world.specs.Runs.{Event, begins, raw, up, down, quiet, arms, boot, Mail, State, Moment, nth, with_nth, number_of, Happens, Run as IsRun, UpComes, UpNamed, turned, unless_ended, moves, comes_down, client_begins, with_packet, state_at_end, first_state}
+use Rattle.smp_device.specs.Formatting.{formatted_side}
 use Rattle.smp_world.specs.UploadJobs.{IsFront, IsAmong, IsNotRaw, Begun, AreTagged, IsTagged}
 use Rattle.smp_world.proofs.Durably.{side_alike, means}
 use Rattle.smp_world.proofs.FairPackets.{FairMeans, FairMessage, FairKind, begun_kind, kind_fair}

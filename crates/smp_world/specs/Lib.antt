@@ -1,7 +1,7 @@
 pub mod Below
 pub mod Comings
-pub mod Telling
 pub mod Machines
+pub mod Clients
 pub mod Lines
 pub mod Spelling
 pub mod Runs
@@ -11,4 +11,5 @@ pub mod UploadJobs
 pub mod SetJobs
 pub mod Deliveries
 pub mod Schedules
+pub mod Worlds
 pub mod Examples

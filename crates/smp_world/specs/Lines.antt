@@ -1,5 +1,5 @@
 -- The lines of a transcript.
-use Rattle.std.specs.Prelude.{ℕ, List, [], ◌++◌, length, codes, Option, Some, None, flat_map, if◌then◌else◌}
+use Rattle.std.specs.Prelude.{ℕ, List, [], ◌++◌, length, codes, Bool, true, false, Option, Some, None, flat_map, if◌then◌else◌}
 use Rattle.std.specs.Fmt.{decimal}
 use Rattle.hex.specs.Hex.{encode_lower}
 use Rattle.smp_model.specs.declared.device.AbstractDevice.{AbstractDevice}
@@ -130,3 +130,15 @@ boot_line_by goings.fault d = boot_fault
 abbrev pub last_text : (packets replies jobs : ℕ) → List ℕ
 last_text packets replies jobs =
     codes "end sent " ++ decimal packets ++ codes " answered " ++ decimal replies ++ codes " done " ++ decimal jobs ++ codes "\n"
+
+-- a cut fell
+abbrev pub is_cut : Line → Bool
+is_cut (raw was_cut) = true
+is_cut (up number was_cut) = true
+is_cut boot_cut = true
+is_cut line = false
+
+-- a boot ended with the device up
+abbrev pub is_booted : Line → Bool
+is_booted (booted d) = true
+is_booted line = false

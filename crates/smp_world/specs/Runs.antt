@@ -1,12 +1,11 @@
 -- Runs: events, and what may come of each, from the state before it.
-use Rattle.std.specs.Prelude.{◌≡◌, ℕ, zero, suc, ◌+◌, ◌-◌, List, [], ◌∷◌, ◌++◌, length, take, replicate, count_by, flat_map, Bool, true, false, not, ◌||◌, Option, Some, None, option_map, slice_get, slice_set}
+use Rattle.std.specs.Prelude.{◌≡◌, ℕ, zero, suc, ◌+◌, List, [], ◌∷◌, ◌++◌, length, count_by, flat_map, Bool, true, false, not, ◌||◌, Option, Some, None, slice_get, slice_set}
 use Rattle.std.specs.Result.{result_ok}
 use Rattle.smp_header.specs.Message.{Message, packet}
 use Rattle.smp_flash.specs.declared.arm.Arm.{Arm}
 use Rattle.smp_model.specs.declared.device.AbstractDevice.{AbstractDevice}
-use Rattle.smp_model.specs.declared.device.Side.{Side}
 use Rattle.smp_model.specs.declared.device.Sizes.{Sizes}
-use Rattle.smp_model.specs.Counters.{no_counters, after_drop}
+use Rattle.smp_model.specs.Counters.{after_drop}
 use Rattle.smp_model.specs.Handled.{is_request}
 use Rattle.smp_model.specs.Meaning.{meaning}
 use Rattle.smp_model.specs.Meant.{Meant}
@@ -15,6 +14,7 @@ use Rattle.smp_model.specs.Said.{Said, reply_message}
 use Rattle.smp_model.specs.Steps.{Step}
 use Rattle.smp_jobs.specs.Jobs.{Job, End, done}
 use Rattle.smp_jobs.specs.Clients.{Client, Turn, begun, client_hears, client_waited}
+use Rattle.smp_device.specs.Formatting.{formatted}
 use Rattle.smp_device.specs.Goings.{Armed, armed_by, Booted, Boots, after_boot}
 use Rattle.smp_world.specs.Comings.{is_up, Came, Comes, after_coming, is_up_after, steps_of_boot, armed_after, is_boot_struck}
 use Rattle.smp_world.specs.Lines as lines
@@ -267,25 +267,6 @@ abbrev pub transcript : State → List Moment → List ℕ
 transcript s moments = flat_map (λ m. lines_text m.lines) moments ++ last_line (state_at_end s moments)
 
 -- The first state: a device as it is formatted with one image or two, after its start.
-abbrev pub formatted_side : Sizes → List ℕ → Side
-formatted_side sizes image = record {
-  active = take (sizes.slot - sizes.page) (image ++ replicate (sizes.slot - sizes.page) 255);
-  confirmed = false;
-  upload = None;
-  pending = None;
-}
-
-abbrev pub formatted : Sizes → List ℕ → Option (List ℕ) → AbstractDevice
-formatted sizes image second = record {
-  first = formatted_side sizes image;
-  second = option_map (formatted_side sizes) second;
-  saved = [];
-  running = [];
-  files = [];
-  counters = no_counters;
-  target = 0;
-}
-
 abbrev pub first_state : Sizes → List ℕ → Option (List ℕ) → State
 first_state sizes image second = record { device = formatted sizes image second; up = true; armed = None; clients = []; packets = []; replies = [] }
 

@@ -4,12 +4,11 @@ use Rattle.std.specs.Prelude.{◌≡◌, ℕ, List, [], ◌∷◌, Option, Some,
 use Rattle.std.specs.Option.{option_map}
 use Rattle.smp_edge.specs.Files.{Folder, HoldsFile}
 use Rattle.smp_flash.specs.declared.geometry.Geometry.{Geometry}
-use Rattle.smp_flash.specs.Geometry.{slot_size}
-use Rattle.smp_model.specs.declared.device.Sizes.{Sizes}
 use Rattle.smp_model.specs.declared.image.ImageInfo.{ImageInfo}
 use Rattle.smp_model.specs.declared.upload.Ending.{Ending}
 use Rattle.smp_model.specs.Image.{good_image, default_image}
 use Rattle.smp_jobs.specs.Jobs.{Job, uploads, lists, sets, puts, gets, echoes, upload_job}
+use Rattle.smp_device.specs.Uploads.{sizes_of}
 use Rattle.smp_schedule.specs.declared.event.Event.{Event as Said}
 use Rattle.smp_schedule.specs.declared.event.Event.TheVariants as said
 use Rattle.smp_schedule.specs.declared.event.Which.{Which as SaidWhich}
@@ -21,9 +20,6 @@ use Rattle.smp_schedule.specs.Schedules.{Schedule}
 use Rattle.smp_world.specs.Runs.{Event, begins, raw, up, down, quiet, arms, boot, Which, new, number, nth, IsTranscript}
 
 -- The flash.
-
-abbrev pub sizes_of : Geometry → Sizes
-sizes_of g = record { unit = g.unit; page = g.page; slot = slot_size g }
 
 -- where no line gives one
 abbrev pub default_geometry : Geometry

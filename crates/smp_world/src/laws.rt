@@ -1,6 +1,5 @@
 //! What is so of every run. The calls do nothing: each stands for a law.
 ghost use Rattle.std.specs.Prelude.{◌≡◌, ◌≢◌, ◌≤◌, ◌<◌, ◌+◌, ◌∷◌, ◌++◌, ℕ, List, length, ◌^◌, All, Contains, Option, Some, None, IfSome, IsSome, flat_map, option_map, true, false};
-ghost use Rattle.smp_flash.specs.Arm.{aim_of, patience_of, troubles_of};
 ghost use Rattle.smp_flash.specs.declared.arm.Arm.{Arm};
 ghost use Rattle.smp_flash.specs.declared.region.Region.{Region};
 ghost use Rattle.smp_model.specs.declared.device.AbstractDevice.{AbstractDevice as Device};
@@ -25,20 +24,21 @@ ghost use Rattle.smp_edge.specs.Files.{Folder};
 ghost use Rattle.smp_schedule.specs.Lawful.{IsJob, IsLawful};
 ghost use Rattle.smp_schedule.specs.Schedules.{Schedule};
 ghost use Rattle.smp_schedule.specs.declared.job.JobWords.TheVariants.{Set as SetWords, Upload as UploadWords};
-ghost use Rattle.smp_world.specs.Below.{LawsBelow};
+ghost use Rattle.smp_world.specs.Below.{DeviceGoes, LawsBelow};
 ghost use Rattle.smp_world.specs.Deliveries.{AreAccepted, AreOrderly, GoesWell, HasRoom, IsDoneSoon, NoUpload, delivered, enough_packets};
+ghost use Rattle.smp_device.specs.Formatting.{formatted};
 ghost use Rattle.smp_device.specs.Goings.{IsCounted, armed_by, durable};
 ghost use Rattle.smp_world.specs.Laws.{CanFormat, EachLine, IsFrontOf, IsOfChanges, IsSave, KeepsNumbers, NamesMail, NoArms, NothingSaved, Passed, TellsTrouble, acknowledged_after, image_in};
 ghost use Rattle.smp_world.specs.Lines.{lines_text};
-ghost use Rattle.smp_world.specs.Runs.{Event, Happens, Moment, Run, State, arms, begins, boot, first_state, formatted, nth, raw, state_at_end, transcript};
+ghost use Rattle.smp_world.specs.Runs.{Event, Happens, Moment, Run, State, arms, begins, boot, first_state, nth, raw, state_at_end, transcript};
 ghost use Rattle.smp_schedule.specs.declared.event.Event.{Event as Spelled};
 ghost use Rattle.smp_schedule.specs.declared.flash_line.FlashLine.{FlashLine as Line};
 ghost use Rattle.smp_world.specs.Schedules.{AreEventsOf, AreJobsOf, Flash, IsFlash, IsJobOf};
 ghost use Rattle.smp_world.specs.SetJobs.{AreTexts, HasAll, IsNoBoot, IsSetJob, NothingStruck, SparesNames};
-ghost use Rattle.smp_world.specs.Telling.{armed_in};
 ghost use Rattle.smp_world.specs.Unarmed.{unarmed_moment, unarmed_moments};
 ghost use Rattle.smp_world.specs.UploadJobs.{AreDifferent, AreTagged, Begun, HasOwnHash, IsAmong, IsDoneBy, IsFront, IsMarked, IsNotRaw, IsTagged, IsUpload};
 
+use smp_device::{arms_are_told, boots_go, packets_go};
 use smp_model::{
     a_pending_slot_is_good, a_pending_slot_stays, acknowledged_bytes_are_held,
     answered_offsets_are_held, devices_stay_consistent, good_uploads_have_images, images_end,
@@ -47,6 +47,15 @@ use smp_model::{
 };
 use smp_reply::{device_replies_are_sendable, replies_are_told};
 use smp_request::requests_are_meant;
+
+/// What the device says of packets and boots.
+pub fn device_goes()
+    ensures { DeviceGoes }
+{
+    arms_are_told();
+    packets_go();
+    boots_go();
+}
 
 /// What the crates below say.
 fn laws_below()
@@ -178,12 +187,6 @@ pub fn saves_stay()
         (moments : List Moment)
         → Run sizes s (e ∷ events) (m ∷ moments) → IsSave m → NothingSaved moments
         → (state_at_end m.state moments).device.saved ≡ s.device.running }
-{}
-
-/// What a flash in memory tells of its troubles, its aim and its patience is what is armed in it.
-pub fn memory_tells_what_is_armed()
-    ensures { (arm : Option Arm)
-        → armed_in (troubles_of arm) (aim_of arm) (patience_of arm) ≡ option_map armed_by arm }
 {}
 
 /// A cut or a failure that was armed and has not struck was passed by fewer events that its region counts than the number

@@ -15,9 +15,11 @@
 //! are functions that do nothing.
 #![tactic(auto)]
 
+mod clients;
 mod examples;
 mod laws;
 mod machine;
+mod mail;
 mod printing;
 #[cfg(test)]
 mod tests;
@@ -32,10 +34,9 @@ pub use laws::{
     a_pending_slot_stays_in_runs, acknowledged_bytes_stay, armed_troubles_strike_in_time,
     delivered_uploads_take_few_packets, devices_stay_consistent_in_runs, done_marks_are_there,
     done_sets_are_saved, done_uploads_are_there, every_schedule_runs, fronts_of_runs_are_runs,
-    jobs_of_schedules_are_proper, lines_name_their_mail, memory_tells_what_is_armed,
-    moments_are_the_devices, numbers_are_kept, orderly_uploads_take_few_packets,
-    regions_count_their_image, runs_begin_with_nothing, saves_stay, schedules_have_events,
-    tagged_uploads_are_of_their_files, told_files_fix_a_replay, unarmed_runs_are_functions,
-    unstruck_moments_are_whole,
+    jobs_of_schedules_are_proper, lines_name_their_mail, moments_are_the_devices, numbers_are_kept,
+    orderly_uploads_take_few_packets, regions_count_their_image, runs_begin_with_nothing,
+    saves_stay, schedules_have_events, tagged_uploads_are_of_their_files, told_files_fix_a_replay,
+    unarmed_runs_are_functions, unstruck_moments_are_whole,
 };
-pub use world::{World, WorldCounts};
+pub use world::World;

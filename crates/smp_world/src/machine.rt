@@ -1,15 +1,15 @@
 //! A device over a flash in memory.
 
-ghost use Rattle.std.specs.Prelude.{◌≡◌, ◌≤◌, Some};
+ghost use Rattle.std.specs.Prelude.{◌≡◌, ◌≤◌, Some, length};
 ghost use Rattle.smp_flash.specs.Memory.{memory_of};
-ghost use Rattle.smp_model.specs.Settings.{stored_form};
 ghost use Rattle.smp_device.specs.Showing.{shown_of};
-ghost use Rattle.smp_world.specs.Machines.{Delivers, OpensMachine, StartsAgain, boot_end, fate_of};
+ghost use Rattle.smp_world.specs.Machines.{BootsIf, BootsMachine, Delivers, OpensFormatted, OpensMachine, StartsAgain, TakesBytes, boot_end, fate_of};
 
+use crate::laws::device_goes;
 use arrayvec::ArrayVec;
 use smp_device::{Device, Down, Handled, OpenFault, Shown};
 use smp_flash::{Arm, MemFlash};
-use smp_header::PacketBuffer;
+use smp_header::{LARGEST_PACKET, PacketBuffer};
 use smp_upload::UploadFault;
 use std::alloc::Global;
 use std::marker::Model;
@@ -44,6 +44,13 @@ pub enum BootEnd {
 
     /// The flash failed, or stands for no device that can start.
     Fault,
+}
+
+/// What came of a packet, and how the boot ended that followed it, where it was a reset.
+#[derive(Clone, Copy, Debug, PartialEq, Eq)]
+pub struct Taken {
+    pub fate: Fate,
+    pub boot: Option<BootEnd>,
 }
 
 /// What came of a packet, by how it was handled. Nobody else writes the flash, so it is as it was where the device goes down.
@@ -89,8 +96,16 @@ impl Model for Machine {
 }
 
 impl Machine {
-    /// Starts a device on this flash.
+    /// Starts a device on this flash. On one that was formatted it fails only for want of memory.
     pub fn open(alloc: Global, flash: MemFlash) -> Result<Machine, OpenFault>
+        ensures opens { OpensMachine result (memory_of flash) }
+        ensures formatted { OpensFormatted result (memory_of flash) }
+    {
+        device_goes();
+        Machine::start(alloc, flash)
+    }
+
+    fn start(alloc: Global, flash: MemFlash) -> Result<Machine, OpenFault>
         ensures { OpensMachine result (memory_of flash) }
     {
         let mut flash = flash;
@@ -106,19 +121,40 @@ impl Machine {
 
     /// The reply that was sent last.
     pub fn reply(&self) -> &[u8]
-        ensures { result.now ≡ self.now.reply }
+        ensures value { result.now ≡ self.now.reply }
+        ensures fits { length result.now ≤ LARGEST_PACKET }
     {
         self.reply.as_slice()
     }
 
     /// Bytes come to the device.
-    pub fn deliver(&mut self, bytes: &[u8]) -> Fate
+    fn deliver(&mut self, bytes: &[u8]) -> Fate
         ensures { Delivers bytes.now result self.old self.new }
     {
         if !self.device.is_up() {
             return Fate::Down;
         }
         fate_of(self.device.handle(&mut self.flash, bytes, &mut self.reply))
+    }
+
+    /// Starts the device anew where a reset was answered.
+    fn boot_after(&mut self, fate: Fate) -> Option<BootEnd>
+        ensures { BootsIf fate result self.old self.new }
+    {
+        match fate {
+            Fate::Reset => Some(self.restart()),
+            Fate::Replied | Fate::Dropped | Fate::Down | Fate::Cut => None,
+        }
+    }
+
+    /// Bytes come to the device, which starts anew after it answered a reset.
+    pub fn take(&mut self, bytes: &[u8]) -> Taken
+        ensures { TakesBytes bytes.now result.fate result.boot self.old self.new }
+    {
+        device_goes();
+        let fate = self.deliver(bytes);
+        let boot = self.boot_after(fate);
+        Taken { fate, boot }
     }
 
     /// Arms the flash.
@@ -130,12 +166,19 @@ impl Machine {
     }
 
     /// Power goes off and on, and the device starts.
-    pub fn boot(&mut self) -> BootEnd
-        ensures starts { StartsAgain result self.old self.new }
-        ensures reply { self.new.reply ≡ self.old.reply }
+    fn restart(&mut self) -> BootEnd
+        ensures { StartsAgain result self.old self.new }
     {
         self.flash.power_on();
         boot_end(self.device.restart(&mut self.flash))
+    }
+
+    /// Power goes off and on, and the device starts.
+    pub fn boot(&mut self) -> BootEnd
+        ensures { BootsMachine result self.old self.new }
+    {
+        device_goes();
+        self.restart()
     }
 
     /// What the device shows of an image.
@@ -147,7 +190,7 @@ impl Machine {
 
     /// The stored form of the saved settings.
     pub fn saved_form(&self) -> &[u8]
-        ensures { result.now ≡ stored_form self.now.device.settings.saved }
+        ensures { result.now ≡ self.now.device.settings.form }
     {
         self.device.saved_form()
     }

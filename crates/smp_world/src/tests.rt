@@ -114,7 +114,7 @@ fn transcript(alloc: Global, schedule: &str, jobs: Vec<Job>) -> Option<Vec<u8>> 
         return None;
     };
     for event in schedule.events() {
-        if world.step(event, &mut text).is_err() {
+        if !world.can_step(event) || world.step(event, &mut text).is_err() {
             return None;
         }
     }

@@ -1,0 +1,9 @@
+use Rattle.std.proofs.Common.{◌≡◌, ◌≤◌, ◌&&◌, not}
+use Rattle.std.specs.Prelude.{count_by, take}
+use Rattle.smp_world.proofs.clients.count_failed.Given as goal
+
+abbrev pub invariant-loop-seat : goal.invariant-loop-seat
+invariant-loop-seat l = record {
+  count : l.count ≡ count_by (λ seat. seat.job.is_over && not seat.is_done) (take l.seat-index l.seats);
+  few : l.count ≤ l.seat-index;
+}
