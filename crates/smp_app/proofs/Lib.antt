@@ -1,7 +1,11 @@
-pub mod Lines
-pub mod Events
 pub mod Texts
+pub mod Loads
+pub mod Images
+pub mod Jobs
+pub mod Flashes
 pub mod Putting
-pub mod Endings
-pub mod Room
-mod Abstractly
+pub mod Plays
+pub mod Written
+pub mod Prepared
+pub mod Replayed
+pub mod Asked

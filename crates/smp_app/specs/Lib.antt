@@ -1,8 +1,9 @@
 pub mod Status
 pub mod Words
-pub mod Device
-pub mod Abstract
-pub mod Schedule
-pub mod Transcript
+pub mod Causes
+pub mod Loading
+pub mod Making
 pub mod Gathering
-pub mod Outcome
+pub mod Playing
+pub mod Replays
+pub mod Preparing

@@ -1,21 +1,25 @@
 //! The program's top call: [`run`] takes the words of the command line, a place to write and the files
 //! that it may load, and answers how it ended.
 //!
-//! The one command is `replay SCHEDULE`. A schedule is a text of lines `raw HEX`, each one packet that
-//! comes to the device. The transcript has a line for each: `raw` with the reply in hex, or
-//! `raw dropped`; its last line is `end sent 0 answered 0 done 0`.
+//! | Words | What is done |
+//! |---|---|
+//! | `replay SCHEDULE` | the events of a schedule happen to a device and its clients, and their transcript is printed |
+//!
+//! The schedule and the files that it names are loaded first, and every line and image is tested before anything happens.
 #![tactic(auto)]
 
+mod clients;
 mod command;
-mod device;
-mod laws;
+mod flash;
+mod loading;
+mod playing;
+mod preparing;
 mod replay;
-mod schedule;
 mod status;
+mod transcript;
 mod words;
 
 pub use command::run;
-pub use laws::agrees_with_the_abstract_device;
 pub use status::Status;
 
 #[cfg(test)]

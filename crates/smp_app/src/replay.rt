@@ -1,115 +1,79 @@
-// The transcript of a schedule.
-ghost use Rattle.std.specs.Prelude.{◌≡◌, ◌+◌, ◌*◌, ◌++◌, ◌≤◌, length, take, OnOk};
-ghost use Rattle.hex.specs.Hex.{encode_lower};
-ghost use Rattle.std.specs.Io.KnownBytes.{append_known};
-ghost use Rattle.smp_edge.specs.Faults.{HasCause};
-ghost use Rattle.smp_edge.specs.Sink.{AppendsFront};
-ghost use Rattle.smp_app.specs.Gathering.{PutOn};
-ghost use Rattle.smp_model.specs.Counters.{no_counters};
-ghost use Rattle.smp_groups.specs.Counters.{counters_of};
-ghost use Rattle.smp_app.specs.Device.{handled};
-ghost use Rattle.smp_app.specs.Transcript.{line_of, line_with, transcript};
-ghost use Rattle.smp_app.specs.Outcome.{WriteCause, IsEndOfWriting};
+// The replay of a schedule.
+ghost use Rattle.std.specs.Prelude.{◌≡◌, ◌≢◌, length, IfErr, IfSome, OnOk};
+ghost use Rattle.smp_schedule.specs.Lawful.{IsLawful};
+ghost use Rattle.smp_world.specs.Schedules.{IsReplay};
+ghost use Rattle.smp_app.specs.Causes.{FileCause, WriteCause};
+ghost use Rattle.smp_app.specs.Loading.{calls_after, names_of};
+ghost use Rattle.smp_app.specs.Preparing.{EndsDue, IsFailure, status_of};
+ghost use Rattle.smp_app.specs.Replays.{IsDueUnlessPrevented, IsReplayOf, LoadsReplay, Prints, due_of_replay, due_of_schedule};
 
 use crate::Status;
-use crate::device::handle;
-use arrayvec::ArrayVec;
-use smp_edge::{Block, Failed, Octets, Sink};
-use smp_groups::Counts;
-use smp_header::PacketBuffer;
+use crate::loading::load_schedule;
+use crate::preparing::prepare;
+use crate::transcript::write_transcript;
+use smp_edge::{Files, Sink};
+use smp_schedule::{Schedule, read_is_lawful};
+use smp_world::schedules_have_events;
 use std::alloc::Global;
 
-/// The transcript is put out in pieces of at least so many bytes.
-const PIECE: usize = 65536;
-
-/// Room for a piece and the line that ends it.
-const ROOM: usize = PIECE + 8192;
-
-const LAST_LINE: &[u8; 29] = b"end sent 0 answered 0 done 0\n";
-
-/// The counters of the device, and the buffers of a reply and its line, which are made once for a whole replay.
-#[derive(Drop)]
-struct Replay {
-    counts: Counts,
-    reply: PacketBuffer,
-    line: [u8; 4101],
-}
-
-impl Replay {
-    fn new() -> Replay
-        ensures { counters_of result.counts ≡ no_counters }
-    {
-        Replay {
-            counts: Counts::default(),
-            reply: ArrayVec::new(),
-            line: [0; 4101],
-        }
-    }
-}
-
-/// Lays a line with these bytes in hex at the front of `line`, which has room for it, and answers its length.
-fn lay_line(line: &mut [u8], bytes: &[u8]) -> usize
-    requires { 2 * length bytes.now + 5 ≤ length line.old }
-    ensures size { result ≡ 2 * length bytes.now + 5 }
-    ensures laid { take result line.new ≡ line_with (encode_lower bytes.now) }
+/// Replays a schedule that was loaded.
+#[tactic(auto, using(crate::proofs::Replayed::refused_prints, crate::proofs::Replayed::refused_quiet, crate::proofs::Replayed::refused_fails, crate::proofs::Replayed::write_fails, crate::proofs::Replayed::break_file_cause))]
+fn replay_loaded<O: Sink, D: Files>(
+    alloc: Global,
+    schedule: &Schedule,
+    out: &mut O,
+    files: &mut D,
+) -> Result<(), Status>
+    requires { IsLawful schedule.now }
+    ensures due { IfSome (D.folder files.old) (λ file. EndsDue (due_of_schedule file schedule.now) result) }
+    ensures printed { Prints (IsReplay (D.folder files.old) schedule.now) (status_of result) (O.written out.old) (O.written out.new) }
+    ensures calls { OnOk result (D.answered files.new ≡ calls_after (length (names_of schedule.now)) (D.answered files.old)) }
+    ensures told { IfErr result IsFailure }
+    ensures file_fault { FileCause (status_of result) (D.faults files.old) (D.faults files.new) }
+    ensures write_fault { WriteCause (status_of result) (O.faults out.old) (O.faults out.new) }
 {
-    let (front, rest) = line.split_at_mut(4);
-    front.copy_from_slice(b"raw ");
-    let (digits, end) = rest.split_at_mut(2 * bytes.len());
-    let _ = hex::encode_to_slice(bytes, digits);
-    end[0] = b'\n';
-    2 * bytes.len() + 5
-}
-
-/// Has the device handle a packet, and appends its line: the reply in hex, or `dropped`.
-fn put_line(block: &mut Block, replay: &mut Replay, event: &[u8]) -> Result<(), Failed>
-    ensures counts { OnOk result (counters_of replay.new.counts ≡ (handled (counters_of replay.old.counts) event.now).counters) }
-    ensures ok { OnOk result (block.new.held ≡ block.old.held ++ line_of (counters_of replay.old.counts) event.now) }
-{
-    if !handle(&mut replay.counts, &mut replay.reply, event) {
-        return block.put(b"raw dropped\n");
-    }
-    let size = lay_line(&mut replay.line, replay.reply.as_slice());
-    block.put(&replay.line[..size])
-}
-
-/// Puts out what is gathered where that is a piece.
-#[tactic(auto, using(crate::proofs::Putting::all_held, crate::proofs::Putting::all_put, crate::proofs::Putting::none_put))]
-fn put_piece<O: Sink>(block: &mut Block, out: &mut O) -> Result<(), Failed>
-    ensures ok { OnOk result (PutOn (O.written out.old) (O.written out.new) block.old.held block.new.held) }
-    ensures front { AppendsFront (O.written out.old) (O.written out.new) block.old.held }
-    ensures cause { HasCause (O.faults out.old) (O.faults out.new) result }
-{
-    if block.len() < PIECE {
-        return Ok(());
-    }
-    block.put_into(out)
-}
-
-/// Writes the transcript of these events, gathered into pieces.
-pub fn write_transcript<O: Sink>(alloc: Global, events: &[Octets], out: &mut O) -> Status
-    ensures done { result ≡ Status.Done → O.written out.new ≡ append_known (O.written out.old) (transcript events.now) }
-    ensures front { AppendsFront (O.written out.old) (O.written out.new) (transcript events.now) }
-    ensures cause { WriteCause result (O.faults out.old) (O.faults out.new) }
-    ensures end { IsEndOfWriting result }
-{
-    let Ok(mut block) = Block::with_capacity(alloc, ROOM) else {
-        return Status::NoMemory;
+    schedules_have_events();
+    let mut world = match prepare(alloc, schedule, files) {
+        Ok(world) => world,
+        Err(status) => return Err(status),
     };
-    let mut replay = Replay::new();
-    for event in events {
-        let Ok(()) = put_line(&mut block, &mut replay, event.as_slice()) else {
-            return Status::NoMemory;
-        };
-        let Ok(()) = put_piece(&mut block, out) else {
-            return Status::WriteFault;
-        };
-    }
-    let Ok(()) = block.put(LAST_LINE) else {
-        return Status::NoMemory;
+    write_transcript(alloc, &mut world, schedule.events(), out)
+}
+
+/// Replays the schedule with this name.
+#[tactic(auto, using(crate::proofs::Replayed::schedule_due, crate::proofs::Replayed::later_due, crate::proofs::Replayed::prints_of, crate::proofs::Replayed::unloaded_prints, crate::proofs::Replayed::unloaded_quiet, crate::proofs::Replayed::unloaded_fails))]
+fn try_replay<O: Sink, D: Files>(
+    alloc: Global,
+    name: &str,
+    out: &mut O,
+    files: &mut D,
+) -> Result<(), Status>
+    ensures due { IfSome (due_of_replay (D.folder files.old) name.now) (λ due. EndsDue due result) }
+    ensures printed { Prints (IsReplayOf (D.folder files.old) name.now) (status_of result) (O.written out.old) (O.written out.new) }
+    ensures calls { OnOk result (LoadsReplay (D.folder files.old) name.now (D.answered files.old) (D.answered files.new)) }
+    ensures told { IfErr result IsFailure }
+    ensures file_fault { FileCause (status_of result) (D.faults files.old) (D.faults files.new) }
+    ensures write_fault { WriteCause (status_of result) (O.faults out.old) (O.faults out.new) }
+{
+    read_is_lawful();
+    let schedule = match load_schedule(alloc, name, files) {
+        Ok(schedule) => schedule,
+        Err(status) => return Err(status),
     };
-    match block.put_into(out) {
+    replay_loaded(alloc, &schedule, out, files)
+}
+
+/// Replays the schedule with this name.
+pub fn replay<O: Sink, D: Files>(alloc: Global, name: &str, out: &mut O, files: &mut D) -> Status
+    ensures due { IfSome (due_of_replay (D.folder files.old) name.now) (IsDueUnlessPrevented result) }
+    ensures printed { Prints (IsReplayOf (D.folder files.old) name.now) result (O.written out.old) (O.written out.new) }
+    ensures not_usage { result ≢ Status.Usage }
+    ensures calls { result ≡ Status.Done → LoadsReplay (D.folder files.old) name.now (D.answered files.old) (D.answered files.new) }
+    ensures file_fault { FileCause result (D.faults files.old) (D.faults files.new) }
+    ensures write_fault { WriteCause result (O.faults out.old) (O.faults out.new) }
+{
+    match try_replay(alloc, name, out, files) {
         Ok(()) => Status::Done,
-        Err(Failed) => Status::WriteFault,
+        Err(status) => status,
     }
 }

@@ -1,6 +1,7 @@
 // How a run ends.
 ghost use Rattle.std.specs.Prelude.{◌≡◌};
 
+use smp_model::ImageFault;
 use std::fmt;
 
 /// How a run ends. Its text is what the program prints on standard error.
@@ -14,6 +15,9 @@ pub enum Status {
 
     /// This line of the schedule, counted from 1, is the first outside the grammar.
     BadSchedule(u32),
+
+    /// An image that was loaded is not good, or is longer than its slot less one page.
+    BadImage(ImageFault),
 
     /// The file is longer than 8388608 bytes.
     TooLong,
@@ -38,7 +42,7 @@ impl Status {
         match self {
             Status::Done => 0,
             Status::Usage => 2,
-            Status::BadSchedule(_) | Status::TooLong => 3,
+            Status::BadSchedule(_) | Status::BadImage(_) | Status::TooLong => 3,
             Status::FileFault => 4,
             Status::WriteFault => 5,
             Status::NoMemory => 10,
@@ -57,6 +61,7 @@ impl fmt::Display for Status {
             Status::Done => write!(f, "done"),
             Status::Usage => write!(f, "usage"),
             Status::BadSchedule(line) => write!(f, "bad schedule line {line}"),
+            Status::BadImage(_) => write!(f, "bad image"),
             Status::TooLong => write!(f, "file too long"),
             Status::FileFault => write!(f, "file fault"),
             Status::WriteFault => write!(f, "write fault"),

@@ -2,6 +2,7 @@
 
 use crate::{Status, run};
 use smp_edge::{Calls, MemFiles, MemSink, Octets, SteadyFiles, SteadySink};
+use smp_model::ImageFault;
 use std::alloc::{AllocError, Global};
 use std::test::Fail;
 
@@ -118,9 +119,11 @@ fn replays_packets(rt: HostRuntime) -> Result<(), Fail> {
 fn names_the_first_bad_line(rt: HostRuntime) -> Result<(), Fail> {
     for (schedule, line) in [
         ("raw 0g", 1),
-        ("raw 00\n\n", 2),
-        ("\n", 1),
-        ("raw 00\nboot\nraw 0\n", 2),
+        ("raw 00\nboot\nraw 0\n", 3),
+        ("# a comment\n\nraw 0\n", 3),
+        ("quiet 1", 1),
+        ("client 2 list", 1),
+        ("raw 00\nflash 512 8 16 base.img", 2),
         ("raw", 1),
         ("raw ", 1),
         ("raw 0", 1),
@@ -129,7 +132,6 @@ fn names_the_first_bad_line(rt: HostRuntime) -> Result<(), Fail> {
         ("raw 00\r\n", 1),
         ("RAW 00", 1),
         (" raw 00", 1),
-        ("raw 00\nraw 00\n# no comments yet\n", 3),
         ("raw \u{e9}\u{e9}", 1),
     ] {
         let (status, written) = replayed(rt.alloc(), schedule.as_bytes(), &[], &[])?;
@@ -233,6 +235,7 @@ fn prints_its_status(rt: HostRuntime) -> Result<(), Fail> {
         (Status::Done, 0, "done"),
         (Status::Usage, 2, "usage"),
         (Status::BadSchedule(100_001), 3, "bad schedule line 100001"),
+        (Status::BadImage(ImageFault::WrongHash), 3, "bad image"),
         (Status::TooLong, 3, "file too long"),
         (Status::FileFault, 4, "file fault"),
         (Status::WriteFault, 5, "write fault"),
@@ -240,6 +243,89 @@ fn prints_its_status(rt: HostRuntime) -> Result<(), Fail> {
     ] {
         assert_eq!(rt; status.code(), code);
         assert_eq!(rt; format!(in rt.alloc(); "{status}")?.as_str(), text);
+    }
+    Ok(())
+}
+
+/// Two clients over the image that is chosen: an echo, and settings that are saved; a boot shows them.
+const CLIENTS: &str = "\
+    client 1 echo hi\n\
+    up new\n\
+    down new\n\
+    client 2 set a 01\n\
+    up new\n\
+    down new\n\
+    up new\n\
+    down new\n\
+    boot\n";
+
+/// What is printed of them.
+const ANSWERED: &str = "\
+    client 1 send 1\n\
+    up 1 reply 1 0b00000600000000a16172626869\n\
+    down 1 done\n\
+    client 2 send 2\n\
+    up 2 reply 2 0b00000100030000a0\n\
+    down 2 send 3\n\
+    up 3 reply 3 0b00000100030103a0\n\
+    down 3 done\n\
+    boot upload none pending none confirmed no saved 010101610101\n\
+    end sent 3 answered 3 done 2\n";
+
+#[test]
+fn replays_clients(rt: HostRuntime) -> Result<(), Fail> {
+    let (status, written) = replayed(rt.alloc(), CLIENTS.as_bytes(), &[], &[])?;
+    assert_eq!(rt; status, Status::Done);
+    assert_eq!(rt; written.as_slice(), ANSWERED.as_bytes());
+    Ok(())
+}
+
+/// How a schedule ends that names files, of which one is there: `app.img`, with these bytes.
+fn ended(alloc: Global, schedule: &str, image: &[u8], loads: &[u32]) -> Result<Status, AllocError> {
+    let mut files = MemFiles::new(alloc, Calls::from_slice(alloc, loads)?);
+    let name = Octets::from_slice(alloc, b"schedule")?;
+    files.add(name, Octets::from_slice(alloc, schedule.as_bytes())?)?;
+    let name = Octets::from_slice(alloc, b"app.img")?;
+    files.add(name, Octets::from_slice(alloc, image)?)?;
+    let words = words(alloc, &["replay", "schedule"])?;
+    Ok(run(alloc, words.as_slice(), &mut SteadySink, &mut files))
+}
+
+#[test]
+fn tests_files_in_their_order(rt: HostRuntime) -> Result<(), Fail> {
+    let alloc = rt.alloc();
+    for (schedule, loads, want) in [
+        // A file that is missing comes before an image that is bad, and a line before both.
+        (
+            "client 1 upload app.img 480 test\nclient 2 put nothing a\n",
+            [].as_slice(),
+            Status::FileFault,
+        ),
+        (
+            "client 1 put nothing a\nclient 2 nothing\n",
+            [].as_slice(),
+            Status::BadSchedule(2),
+        ),
+        (
+            "client 1 upload app.img 480 test\n",
+            [].as_slice(),
+            Status::BadImage(ImageFault::Short),
+        ),
+        (
+            "flash 512 8 16 app.img\nclient 1 list\n",
+            [].as_slice(),
+            Status::BadImage(ImageFault::Short),
+        ),
+        ("client 1 put app.img a\n", [].as_slice(), Status::Done),
+        // The second load fails.
+        (
+            "client 1 put app.img a\n",
+            [2].as_slice(),
+            Status::FileFault,
+        ),
+    ] {
+        let status = ended(alloc, schedule, b"abc", loads)?;
+        assert_eq!(rt; status, want, "{schedule}");
     }
     Ok(())
 }

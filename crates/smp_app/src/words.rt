@@ -1,11 +1,18 @@
 // The words of the command line.
-ghost use Rattle.std.specs.Prelude.{◌≡◌, if◌then◌else◌, Some, None};
-ghost use Rattle.std.specs.Option.{option_map};
+ghost use Rattle.std.specs.Prelude.{◌≡◌, if◌then◌else◌, Some, None, option_map};
 ghost use Rattle.std.specs.List.{list_all};
-ghost use Rattle.smp_app.specs.Words.{is_plain, is_word, replay_name};
+ghost use Rattle.smp_schedule.specs.Words.{is_plain, is_word};
+ghost use Rattle.smp_app.specs.Words.{asked_by, asked_in, replay_in};
 
 use smp_edge::Octets;
 use std::str;
+
+/// What the words ask for.
+#[derive(Drop)]
+pub enum Command<'a> {
+    /// `replay SCHEDULE`, a file's name.
+    Replay(&'a str),
+}
 
 /// Whether the byte is no control character.
 fn is_plain(byte: u8) -> bool
@@ -35,12 +42,24 @@ fn word(bytes: &[u8]) -> Option<&str>
     }
 }
 
-/// The name of the schedule in the words `replay SCHEDULE`.
-pub fn schedule_name(words: &[Octets]) -> Option<&str>
-    ensures { option_map (λ t. t.now) result ≡ replay_name words.now }
+/// The replay of the schedule with this name.
+fn read_replay(name: &[u8]) -> Option<Command<'_>>
+    ensures { option_map asked_by result ≡ replay_in name.now }
+{
+    match word(name) {
+        Some(name) => Some(Command::Replay(name)),
+        None => None,
+    }
+}
+
+/// The command that the words spell. None where they spell none.
+pub fn read_command(words: &[Octets]) -> Option<Command<'_>>
+    ensures { option_map asked_by result ≡ asked_in words.now }
 {
     match words {
-        [command, name] if command.as_slice() == b"replay".as_slice() => word(name.as_slice()),
+        [command, name] if command.as_slice() == b"replay".as_slice() => {
+            read_replay(name.as_slice())
+        }
         _ => None,
     }
 }

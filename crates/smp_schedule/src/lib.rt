@@ -43,6 +43,7 @@ pub use job::JobWords;
 pub use job_reading::read_job;
 pub use laws::{generated_is_lawful, read_is_lawful, written_is_read};
 pub use schedule::{Schedule, read_schedule};
+pub use words::read_number;
 pub use writing::write_schedule;
 
 #[cfg(test)]
