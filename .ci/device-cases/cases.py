@@ -222,7 +222,7 @@ def images_of_other_forms():
 @case("A stored image is set by its hash, and again; while it is pending nothing changes it.")
 def pending_slot():
     yield from (start(NEW, len(NEW)), listed(hash_of(NEW)), listed(hash_of(NEW)), listed(hash_of(NEW), True), start(NEXT, 100))
-    yield from (ask("erase", slot=1), ask("erase"), ask("erase", slot=0), ask("erase", 0), start(NEW, 40), part(NEW, 172, 173), "boot", LIST)
+    yield from (ask("erase", slot=1), ask("erase"), ask("erase", slot=0), ask("erase", 0), start(NEW, 40), ask("upload", off=172, data=b"\x00"), "boot", LIST)
     yield from (start(NEXT, 100, version=0), listed(hash_of(NEW), True, 0), start(NEW, 40, False), part(NEW, 8, 16), part(NEW, 172, 172))
 
 

@@ -1,6 +1,6 @@
 """A body with a list of cells, kept on two sides of which the newest counts."""
 
-from .flash import GATE, SIDE, filled, is_blank
+from .flash import GATE, SIDE, filled
 
 HEAD = 16  # the gate and the head of a side
 LARGEST_BODY = 4080
@@ -56,14 +56,10 @@ class Bank:
 
     def read_cells(self, side, first):
         """The cells whose gate stands, and the place of the first one behind all that were begun."""
-        self.cells, self.next = [], first
-        for at in range(first, SIDE - self.stride + 1, self.stride):
-            held = side[at:at + self.stride]
-            if is_blank(held):
-                continue
-            self.next = at + self.stride
-            if held[-8:] == GATE:
-                self.cells.append(held[:self.cell])
+        begun = len(side.rstrip(b"\xff"))
+        self.next = first + max(0, -(-(begun - first) // self.stride)) * self.stride
+        cells = [side[at:at + self.stride] for at in range(first, self.next, self.stride)]
+        self.cells = [held[:self.cell] for held in cells if held[-8:] == GATE]
 
     def is_full(self):
         return self.next + self.stride > SIDE
