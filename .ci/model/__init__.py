@@ -1,6 +1,5 @@
 """A model of the device, written from the formats alone, apart from the program.
 
-It holds a flash of plain bytes and reads it anew where a device would keep what it knows, so it shares neither the
-program's code nor its way to an answer. `replay` prints the transcript of a schedule of `flash`, `raw`, `arm` and `boot`
-lines; the checks in the folder above compare it with what the program prints.
+It holds a flash of plain bytes and shares no code with the program. `replay` prints the transcript of a schedule of
+`flash`, `raw`, `arm` and `boot` lines; the checks in the folder above compare it with what the program prints.
 """

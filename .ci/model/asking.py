@@ -40,7 +40,10 @@ def parts(file, step, image=None, tag=None):
 
 
 def write_file(name, held, begun=0, length=None):
-    return ask("file_write", name=name, off=begun, data=held, len=len(held) if length is None and begun == 0 else length)
+    """A part of a file; a start announces what it holds where no other length is given."""
+    if length is None and begun == 0:
+        length = len(held)
+    return ask("file_write", name=name, off=begun, data=held, len=length)
 
 
 def raw(held):

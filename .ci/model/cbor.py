@@ -50,7 +50,7 @@ def simple(low, argument):
 
 
 def skip_items(data, at, count, each, level):
-    """The place after a list or map that holds `count` times `each` items, or after its break where there is no count."""
+    """The place after a list or map of `count` times `each` items, or after its break where there is no count."""
     while count is None or count > 0:
         if count is None:
             if at < len(data) and data[at] == BREAK:

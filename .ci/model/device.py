@@ -2,7 +2,8 @@
 
 from .files import Files
 from .flash import Fault
-from .packet import IMAGE, INVALID_VALUE, READ, SETTINGS, STATISTICS, WRITE, Failure, read_packet, request_of, write_reply
+from .packet import IMAGE, INVALID_VALUE, READ, SETTINGS, STATISTICS, WRITE
+from .packet import Failure, read_packet, request_of, write_reply
 from .settings import LARGEST_NAME, NAME_LENGTH, NO_NAME, Settings, form_of
 from .side import NO_DIGEST, NO_FREE, NO_SLOT, Side
 
