@@ -496,16 +496,12 @@ def two_images_part_cut():
     yield from (part(LARGE, 480, 960, None, 1), LIST)
 
 
-@case("A start settles the first image, then the second; it is cut and fails within each.")
+@case("A start gives up an upload of the first image, then of the second; it is cut and fails within each.")
 def two_images_settle():
-    wrong = bytes(32)
     yield TWO
-    for number in range(1, 7):
-        for image in (0, 1):
-            gate = f"arm cut progress{'2' if image else ''}-gate 2 none"
-            yield from (start(SMALL, 96, wrong, image), gate, part(SMALL, 96, 300, None, image), "boot")
-            yield from (start(SMALL, 96, wrong, image), f"arm cut progress{'2' if image else ''} 3 none")
-            yield part(SMALL, 96, 300, None, image)
+    for number in range(1, 9):
+        for image, region in ((0, "progress-gate"), (1, "progress2-gate")):
+            yield from (start(SMALL, 96, bytes(32), image), f"arm fail {region} 2 none", part(SMALL, 96, 300, None, image))
         yield from (f"arm {'fail' if number % 2 else 'cut'} any {number} 77", "boot", "boot")
 
 
