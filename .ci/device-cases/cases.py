@@ -3,13 +3,12 @@
 A case is a function that gives the lines of its schedule: texts, which stand as they are, and packets.
 """
 
-import random
 import struct
 from hashlib import sha256
 
 from model.asking import ask, packet, part, parts, raw, start, write_file
 from model.image import MAGIC, make_image
-from model.running import IMAGES
+from model.running import FILES, randbytes
 
 CASES = {}
 TWO = "flash 512 8 16 base.img other.img"
@@ -25,14 +24,9 @@ def case(about):
     return keep
 
 
-def some(count, seed):
-    """Bytes that no rule makes."""
-    return random.Random(seed).randbytes(count)
-
-
 def magic(count, seed):
     """A file that begins as an image does and is none."""
-    return MAGIC + some(count - 4, seed)
+    return MAGIC + randbytes(count - 4, seed)
 
 
 def hash_of(image):
@@ -45,9 +39,9 @@ def listed(hash=None, confirm=None, version=1):
 
 
 SMALL = magic(300, 1)
-LARGE = make_image(some(1928, 2), (1, 2, 3))
-NEW, NEXT = make_image(some(100, 3), (0, 2, 2)), make_image(some(60, 4), (0, 2, 3))
-BASE, OTHER = IMAGES["base.img"], IMAGES["other.img"]
+LARGE = make_image(randbytes(1928, 2), (1, 2, 3))
+NEW, NEXT = make_image(randbytes(100, 3), (0, 2, 2)), make_image(randbytes(60, 4), (0, 2, 3))
+BASE, OTHER = FILES["base.img"], FILES["other.img"]
 LIST = ask("image_list")
 # Values in hexadecimal: those that are read, those that are not, and maps that are no echo.
 GOOD_VALUES = """
@@ -164,7 +158,7 @@ def no_digest():
 @case("A file whose start comes between, late, and a part of the other file at the wanted offset.")
 def late_start():
     shared = magic(480, 5)
-    first, second = shared + some(520, 6), shared + some(320, 7)
+    first, second = shared + randbytes(520, 6), shared + randbytes(320, 7)
     yield from (start(first, 480), start(second, 480), start(first, 480), part(second, 480, 800))
     yield from (part(first, 800, 1000), LIST, "boot")
 
@@ -196,7 +190,7 @@ def refused_starts():
 
 @case("An upload as long as its room in large parts, by units of one byte.")
 def largest_upload():
-    file = make_image(some(3 * 1024 - 72, 11))
+    file = make_image(randbytes(3 * 1024 - 72, 11))
     yield "flash 1024 1 4 base.img"
     yield from parts(file, 1001)
     yield from (LIST, listed(hash_of(file)), "boot", LIST, start(file + b"\x00", 100), start(file, 100))
@@ -204,7 +198,7 @@ def largest_upload():
 
 @case("Complete uploads that are no good images: none is listed or set.")
 def images_that_are_not_good():
-    good = make_image(some(40, 12))
+    good = make_image(randbytes(40, 12))
     header, body = good[:32], good[32:72]
 
     def made(head, rest):
@@ -223,7 +217,7 @@ def images_that_are_not_good():
 
 @case("Images of other forms: protected entries, entries around the hash, bytes behind it, a larger header.")
 def images_of_other_forms():
-    payload = some(40, 13)
+    payload = randbytes(40, 13)
 
     def headed(header=32, protected=0, flags=0, build=0):
         held = MAGIC + struct.pack("<IHHII4BI", 0, header, protected, len(payload), flags, 255, 254, 253, 252, build)
@@ -501,7 +495,8 @@ def two_images_settle():
     yield TWO
     for number in range(1, 9):
         for image, region in ((0, "progress-gate"), (1, "progress2-gate")):
-            yield from (start(SMALL, 96, bytes(32), image), f"arm fail {region} 2 none", part(SMALL, 96, 300, None, image))
+            yield from (start(SMALL, 96, bytes(32), image), f"arm fail {region} 2 none")
+            yield part(SMALL, 96, 300, None, image)
         yield from (f"arm {'fail' if number % 2 else 'cut'} any {number} 77", "boot", "boot")
 
 
@@ -569,7 +564,7 @@ def struck_saves():
             for left in ("none", "all", "12345"):
                 yield from (setting("a", bytes([number])), f"arm {kind} settings {number} {left}", SAVE, SAVE, LOAD)
                 yield from (value_of("a"), "boot")
-                yield from (setting("b", some(90, number)), setting("c", some(100, number)))
+                yield from (setting("b", randbytes(90, number)), setting("c", randbytes(100, number)))
                 yield from (f"arm {kind} settings {number} {left}", SAVE, "boot", SAVE)
 
 
@@ -591,7 +586,7 @@ def parts_of_files():
     yield from (write_file("f", b"9ab", 8), write_file("f", b"9a", 8))
     yield from (write_file("f", b"", 10), write_file("f", b"x", 10), write_file("g", b"x", 1), write_file("f", b"x", 0))
     yield from (write_file("f", b"y", 1), LIST)
-    yield from (write_file("f", some(1500, 1), 0, 4000), write_file("f", some(1500, 2), 1500))
+    yield from (write_file("f", randbytes(1500, 1), 0, 4000), write_file("f", randbytes(1500, 2), 1500))
     yield from (ask("file_read", name="f", off=0), ask("file_read", name="f", off=1024))
     yield from (ask("file_read", name="f", off=2048), ask("file_read", name="f", off=3000))
     yield from (ask("file_read", name="f", off=3001), ask("file_read", 0, name="g", off=0))
@@ -611,7 +606,7 @@ def refused_files():
 
 @case("Hashes of parts of a file.")
 def hashes_of_files():
-    yield write_file("f", some(2000, 3), 0, 2000)
+    yield write_file("f", randbytes(2000, 3), 0, 2000)
     pieces = [(None, None), (0, 0), (0, 2000), (0, 4294967295), (1, None), (1999, 5), (2000, None), (2001, None)]
     for begun, length in pieces + [(7, 100), (500, 0)]:
         yield ask("file_hash", name="f", off=begun, len=length)
@@ -642,7 +637,7 @@ def arms():
 
 @case("Pages of 4096 bytes, which are as large as a side of a bank, and many of them.")
 def large_pages():
-    file = make_image(some(20000, 20), (9, 8, 7), 6)
+    file = make_image(randbytes(20000, 20), (9, 8, 7), 6)
     yield "flash 4096 8 17 base.img"
     for number, one in enumerate(parts(file, 1900)):
         yield from (f"arm cut any 2 {number}", one, "boot", one)
@@ -652,8 +647,126 @@ def large_pages():
 
 @case("Units of two and pages of 2048 bytes over two images.")
 def units_of_two():
-    file = make_image(some(5001, 21), (9, 8, 7), 6)
+    file = make_image(randbytes(5001, 21), (9, 8, 7), 6)
     yield "flash 2048 2 5 other.img base.img"
     for number, one in enumerate(parts(file, 777, 1)):
         yield from (f"arm fail any {number % 3 + 1} {number}", one, one, one)
     yield from (LIST, listed(hash_of(file), True), "boot", LIST)
+
+
+# Clients.
+
+
+def turns(count):
+    """Packets that arrive at once, and so do their replies."""
+    return ["up new", "down new"] * count
+
+
+def struck_upload(armed, image=""):
+    """A client's upload whose second part is struck, up to what follows the cut."""
+    yield from (f"client 1 upload app.img 480 only{image}", "up new", "down new", armed, "up new")
+
+
+@case("A client's part is cut: the packet that it sends again is answered as if nothing had been.")
+def client_part_cut():
+    yield from (*struck_upload("arm cut slot1 1 all"), "boot", "quiet 1", "up new", *turns(5))
+
+
+@case("A client's part is cut, and so is the saving of its page, twice.")
+def client_rescue_cut():
+    yield from (*struck_upload("arm cut slot1 1 all"), "arm cut slot1 1 7", "boot", "boot", "quiet 1", "up new")
+    yield "down new"
+    yield from ("arm cut slot1 1 all", "up new", "arm cut scratch 1 7", "boot", "boot", "quiet 1", *turns(4))
+
+
+@case("The record of a client's part is cut at its gate, with nothing and with all of it left.")
+def client_record_cut():
+    yield from (*struck_upload("arm cut progress-gate 1 none"), "boot", "quiet 1", "up new", "down new")
+    yield from ("arm cut progress-gate 1 all", "up new", "boot", "quiet 1", *turns(4))
+
+
+@case("The record of the part after a client's next one is cut at its gate.")
+def client_second_record_cut():
+    yield from (*struck_upload("arm cut progress-gate 2 none"), "down new", "up new", "boot", "quiet 1", *turns(4))
+
+
+@case("A client's upload of a second image is cut within a part.")
+def client_part_cut_of_a_second_image():
+    yield from ("flash 512 8 16 base.img base.img", *struck_upload("arm cut slot3 1 all", " 1"), "boot", "quiet 1")
+    yield from turns(6)
+
+
+@case("Uploads with a test and with a confirming mark, and other clients that are refused meanwhile.")
+def client_marks():
+    yield from ("client 1 upload next.img 700 test", *turns(4), "boot", "client 2 upload app.img 480 only", *turns(1))
+    yield "client 3 list"
+    yield from (*turns(1), "client 4 upload next.img 700 confirm", *turns(2), "client 5 upload other.img 93 only 1")
+    yield from turns(1)
+
+
+@case("A mark with a confirming end is cut between its writes; the client asks again.")
+def client_mark_cut():
+    yield from ("client 1 upload next.img 1900 confirm", *turns(1), "arm cut slot1 2 none", "up new", "boot", "quiet 1")
+    yield from (*turns(1), "boot")
+
+
+@case("Two clients' uploads by turns, with parts that arrive late and replies that come twice.")
+def clients_by_turns():
+    yield from ("client 1 upload app.img 480 test", "up new", "client 2 upload next.img 300 test", "down 1", "up 2")
+    yield from ("down 2", "up 3", "down 3")
+    yield from ("up 1", "down 1", "up 4", "down 4", "down new", "up new", "down new", "up 3", "up 4", "down 1")
+    yield from ("quiet 2", "up new", "down new")
+    yield from (*turns(3), "quiet 1", *turns(6), "boot")
+
+
+@case("An upload of a large image, in which every fifth reply is lost, and a cut falls.")
+def large_upload():
+    yield "flash 4096 8 17 base.img"
+    yield "client 1 upload big.img 480 test"
+    for number in range(1, 173):
+        yield from ("up new", "quiet 1" if number % 5 == 0 else "down new")
+        if number == 101:
+            yield from ("arm cut any 1 7", "up new", "boot", "quiet 1")
+    yield "boot"
+
+
+@case("Waits that end in no answer, by quiet and by strangers; packets and replies that are not there.")
+def waits():
+    yield from ("up new", "down new", "up 1", "down 7", "client 1 echo hi", "down new")
+    yield from ["quiet 1"] * 9
+    yield from ("quiet 1", "up 9", "down 1", "client 2 echo \u00e9\u00e8", "up 10", "client 3 list", "up new", "down 2")
+    yield from ("down 2", "down 3", "quiet 3")
+    yield from ("client 4 echo hi", "client 5 get a", "up 12")
+    yield from ("client 6 set b 01", *turns(1))
+    yield from ["down new"] * 130
+    yield from ("up 4294967295", "down 4294967295", "quiet 2")
+
+
+@case("Settings, a file, its reading and a list, one client after the other.")
+def jobs_in_turn():
+    yield from ("client 1 set a 01", *turns(2), "client 2 put text a", *turns(1), "client 3 get a", *turns(1))
+    yield from ("client 4 list", *turns(1), "boot")
+
+
+@case("Files of several parts, of no bytes and of too many, put and read with losses; settings that are refused.")
+def jobs_with_losses():
+    yield from ("client 1 put parts p", *turns(1), "up new", "quiet 1", *turns(2), "up 1", "client 2 get p", "up new")
+    yield from ("down new", *turns(2))
+    yield from ("client 3 put empty e", *turns(1), "client 4 get e", *turns(1), "client 5 put long l", *turns(1))
+    yield from ("client 6 get none", *turns(1))
+    yield from ("client 7 set a - b 00ff a 22", "up new", "boot", "down new", *turns(3), "boot", "client 8 put parts p")
+    yield from (*turns(2), "boot", *turns(4))
+
+
+@case("Small parts over units of eight bytes: what doesn't fill a unit is sent again, and a job may stall.")
+def small_parts():
+    yield from ("client 1 upload base.img 33 only", *turns(5), "client 2 upload other.img 47 test", "up new")
+    yield "down new"
+    yield from ["up new", "down new", "raw " + ask("erase").hex()] * 90
+
+
+@case("A late part of another file is tagged, and does not enter.")
+def late_tagged_part():
+    yield from ("client 1 upload app.img 480 only", *turns(1), "client 2 upload next.img 480 only", "up 2", "up 3")
+    yield from ("down 3", "up 2", "down 4")
+    yield from ("up 4", "down new", "up new", "up 2", "down 4", *turns(3))

@@ -15,9 +15,10 @@ def packet(group, command, operation, data, version=1, sequence=0):
 
 
 def ask(what, version=1, sequence=0, /, **fields):
-    """The packet of a request by its name; a field that is None is left out."""
+    """The packet of a request by its name, its keys in the order of the table; a field that is None is left out."""
     group, command, operation = PLACES[what]
-    data = {key: value for key, value in fields.items() if value is not None}
+    keys = [word[:-2] for word in TABLE[group, command, operation][1].split()]
+    data = {key: fields[key] for key in keys if fields.get(key) is not None}
     return packet(group, command, operation, data, version, sequence)
 
 

@@ -1,6 +1,6 @@
 """The subset of CBOR: maps with text keys are read, and values are written in the shortest form."""
 
-OTHER = object()  # a value that no known key may have: a list, a map, a tag, a float or another simple value
+OTHER = object()  # a value that no known key may have: a tag, a float, another simple value, a map with other keys
 LEVELS = 8
 BREAK = 0xFF
 CUTS = (1, 2, 4, 8)  # bytes of the argument for low bits 24 to 27
@@ -49,17 +49,27 @@ def simple(low, argument):
     return {20: False, 21: True, 22: None}.get(low, OTHER)
 
 
-def skip_items(data, at, count, each, level):
-    """The place after a list or map of `count` times `each` items, or after its break where there is no count."""
+def items(data, at, count, each, level):
+    """The items of a list or map of `count` times `each` of them, or up to its break, and the place after them."""
+    held = []
     while count is None or count > 0:
         if count is None:
             if at < len(data) and data[at] == BREAK:
-                return at + 1
+                return held, at + 1
         else:
             count -= 1
         for _ in range(each):
-            at = item(data, at, level)[1]
-    return at
+            value, at = item(data, at, level)
+            held.append(value)
+    return held, at
+
+
+def pairs_of(held):
+    """The map of keys and values by turns; OTHER where a key is no text or comes twice."""
+    keys = held[::2]
+    if not all(isinstance(key, str) for key in keys) or len(set(keys)) < len(keys):
+        return OTHER
+    return dict(zip(keys, held[1::2]))
 
 
 def item(data, at, level):
@@ -77,7 +87,8 @@ def item(data, at, level):
         raise Refused
     if major == 6:
         return OTHER, item(data, at, level + 1)[1]
-    return OTHER, skip_items(data, at, argument, major - 3, level + 1)
+    held, at = items(data, at, argument, major - 3, level + 1)
+    return held if major == 4 else pairs_of(held), at
 
 
 def read_map(data):

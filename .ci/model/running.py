@@ -1,22 +1,39 @@
 """Runs the program on schedules, and compares what it prints."""
 
 import os
+import random
 import subprocess
 import tempfile
 
 from .image import DEFAULT_IMAGE, make_image
 
-# The images that schedules may name: that of a flash without a flash line, and another one.
-IMAGES = {"base.img": DEFAULT_IMAGE, "other.img": make_image(bytes(range(100, 121)), (3, 4, 5), 6, 0x10)}
+
+def randbytes(count, seed):
+    """Bytes that no rule makes."""
+    return random.Random(seed).randbytes(count)
+
+
+# The files that schedules may name: the image of a flash without a flash line, further images, and other files.
+FILES = {
+    "base.img": DEFAULT_IMAGE,
+    "other.img": make_image(bytes(range(100, 121)), (3, 4, 5), 6, 0x10),
+    "app.img": make_image(randbytes(1928, 1), (1, 2, 3)),
+    "next.img": make_image(randbytes(1200, 2), (1, 2, 4), 9),
+    "big.img": make_image(randbytes(65464, 3), (2, 0, 0)),
+    "empty": b"",
+    "text": b"abc",
+    "parts": randbytes(1100, 4),
+    "long": bytes(16385),
+}
 
 
 class Runner:
-    """A folder with the images, in which the program is run."""
+    """A folder with the files, in which the program is run."""
 
     def __init__(self, program):
         self.program = os.path.abspath(program)
         self.folder = tempfile.TemporaryDirectory()
-        for name, held in IMAGES.items():
+        for name, held in FILES.items():
             with open(os.path.join(self.folder.name, name), "wb") as file:
                 file.write(held)
 
