@@ -7,6 +7,7 @@ import struct
 from hashlib import sha256
 
 from model.asking import ask, packet, part, parts, raw, start, write_file
+from model.flash import OFFSET, STEP
 from model.image import MAGIC, make_image
 from model.running import FILES, randbytes
 
@@ -231,6 +232,8 @@ def images_of_other_forms():
     areas = [b"\x08\x69\x0a\x00" + entry, b"\x08\x69\x0b\x00" + entry]
     made = [ended(held) for held in headers] + [ended(headed(protected=10) + area) for area in areas]
     made += [ended(headed(), entry), ended(headed(), b"", entry), ended(headed(), after=b"behind")]
+    again = b"\x10\x00\x20\x00" + sha256(headed()).digest()
+    made += [ended(headed(), b"", again), ended(headed(), b"", b"\x10\x00\x00\x00")]
     for file in made + [ended(headed(), b"\x10\x00\x00\x00"), ended(headed(protected=3) + b"\x08\x69\x03")]:
         yield from (start(file, len(file)), LIST)
 
@@ -269,6 +272,13 @@ def confirm_cut():
         yield from (f"arm cut slot0 1 {left}", listed(None, True), "boot", LIST)
     yield from ("arm cut slot0 1 none", listed(None, True), setting("a", b""), "arm fail any 1 none")
     yield from (listed(None, True), SAVE, "boot")
+
+
+@case("A confirming write is struck and leaves other bytes: they confirm the image where the first of them is 01.")
+def confirmed_by_what_is_left():
+    for first in (0x00FFFFFF, 0x01000000):
+        seed = (first - OFFSET) * pow(STEP, -1, 1 << 32) % (1 << 32)
+        yield from (f"arm fail slot0 1 {seed}", listed(None, True), LIST, f"arm cut slot0 2 {seed}", listed(None, True), "boot")
 
 
 @case("The mark's writes: cut between the permanent byte and the magic, and behind them; then a test.")
@@ -333,6 +343,13 @@ def part_cut():
 def rescue_cut():
     begun, struck = half()
     yield from (begun, "arm cut slot1 1 all", struck, "arm cut slot1 1 7", "boot")
+    yield from behind("boot")
+
+
+@case("The saving of a page goes on with the erase of the slot's page, also where that is FF already.")
+def rescue_erases_again():
+    begun, struck = half()
+    yield from (begun, "arm cut slot1 1 all", struck, "arm cut slot1 1 all", "boot", "arm cut slot1 2 none", "boot")
     yield from behind("boot")
 
 
