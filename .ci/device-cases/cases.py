@@ -278,7 +278,8 @@ def confirm_cut():
 def confirmed_by_what_is_left():
     for first in (0x00FFFFFF, 0x01000000):
         seed = (first - OFFSET) * pow(STEP, -1, 1 << 32) % (1 << 32)
-        yield from (f"arm fail slot0 1 {seed}", listed(None, True), LIST, f"arm cut slot0 2 {seed}", listed(None, True), "boot")
+        yield from (f"arm fail slot0 1 {seed}", listed(None, True), LIST, f"arm cut slot0 2 {seed}", listed(None, True))
+        yield "boot"
 
 
 @case("The mark's writes: cut between the permanent byte and the magic, and behind them; then a test.")
